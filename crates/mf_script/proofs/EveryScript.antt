@@ -2,8 +2,9 @@
 use Rattle.std.proofs.Common.{◌≡◌, ℕ, suc, ◌+◌, ◌≤◌, Bool, true, false, if◌then◌else◌, List, [], ◌∷◌, length, Ok, Err, refl, arith}
 use Rattle.std.specs.Prelude.{◌==◌}
 use Rattle.std.specs.List.{AllByRecursion, onto_first}
+use Rattle.std.specs.Str.{byte}
 use Rattle.mf_names.specs.declared.limits.TheConstants.{SCRIPT_LIMIT}
-use Rattle.mf_words.specs.Words.{lines_in, newline}
+use Rattle.mf_words.specs.Words.{lines_in}
 use Rattle.mf_calls.specs.declared.script.Script.{Script}
 use Rattle.mf_calls.specs.WellFormed.{IsWellFormed}
 use Rattle.mf_script.specs.declared.rows.Place.{Place}
@@ -32,7 +33,7 @@ onto_line most b (line ∷ lines) are = (omega (arith, are.0), longer most (suc 
 pub lines_within : (bytes : List ℕ) → AreWithin (length bytes) (lines_in bytes)
 unfolding AreWithin
 lines_within [] = tt
-lines_within (b ∷ bytes) = one (b == newline) (lines_within bytes) where
+lines_within (b ∷ bytes) = one (b == byte "\n") (lines_within bytes) where
   one : (ends : Bool) → AreWithin (length bytes) (lines_in bytes)
       → AreWithin (suc (length bytes)) (if ends then [] ∷ lines_in bytes else onto_first b (lines_in bytes))
   one true rest = (omega arith, longer (length bytes) (suc (length bytes)) (lines_in bytes) (omega arith) rest)

@@ -1,5 +1,4 @@
 -- What the grammar reads of a word is well formed.
-use Rattle.mf_labeltext.specs.Bytes.{comma, slash}
 use Rattle.std.proofs.Common.{All, ◌≡◌, ℕ, suc, ◌+◌, ◌<◌, arith, length-append, ◌==◌, ◌≤◌, ◌||◌, Bool, true, false, if◌then◌else◌, List, [], ◌∷◌, ◌++◌, length, Option, Some, None, Result, Ok, Err, refl, subst, ap, ◌∙◌, lit≤}
 use Rattle.std.specs.Prelude.{nat_lt, codes}
 use Rattle.std.specs.List.{slice_split}
@@ -40,7 +39,7 @@ use Rattle.mf_script.specs.Readers.{Read, fails, or_fault, by_option}
 use Rattle.mf_script.specs.Parts.{all_added, number_to, number_of, descriptor_of, open_mode_of, port_of, with_group, groups_of, simple_name_of, process_of, mode_of, with_component, components_of, behind_root, path_of, any_word, text_of, sides_of, rule_number_of, rule_of}
 use Rattle.mf_script.specs.Grammar.{requested, judged_request}
 use Rattle.mf_script.proofs.EscapedBytes.{escaped_short, escaped_fit}
-use Rattle.mf_script.proofs.Numbers.{number_most}
+use Rattle.mf_script.proofs.NumberLimits.{number_most}
 use Rattle.mf_script.proofs.ScriptWords.{both, word_fits}
 use Rattle.mf_script.proofs.Yields.{Yields, done, refused, chain, checked, widened}
 
@@ -111,7 +110,7 @@ with_component_formed path w formed = checked _ _ _ (λ e.
 
 components_formed : (w : List ℕ) → Yields IsPath (components_of w)
 unfolding components_of
-components_formed w = all_added_formed IsPath with_component with_component_formed [] (parts slash w) (record { few = lit≤ tt; each = All-nil _ })
+components_formed w = all_added_formed IsPath with_component with_component_formed [] (parts (byte "/") w) (record { few = lit≤ tt; each = All-nil _ })
 
 behind_root_formed : (w : List ℕ) → Yields IsPath (behind_root w)
 unfolding behind_root
@@ -153,8 +152,8 @@ pub record AreFormedGroups (groups : List ℕ) : Type 0 where
 pub groups_formed : (w : List ℕ) → Yields AreFormedGroups (groups_of w)
 unfolding groups_of parts
 groups_formed w =
-    widened (all_groups_formed (slice_split (λ b. b == comma) w) 0 [] (record { counted = refl; few = lit≤ tt; each = All-nil _ }))
-    (λ groups got. record { some = omega (arith, got.counted, length-slice_split (λ b. b == comma) w); few = got.few; each = got.each })
+    widened (all_groups_formed (slice_split (λ b. b == byte ",") w) 0 [] (record { counted = refl; few = lit≤ tt; each = All-nil _ }))
+    (λ groups got. record { some = omega (arith, got.counted, length-slice_split (λ b. b == byte ",") w); few = got.few; each = got.each })
 
 -- Requests
 

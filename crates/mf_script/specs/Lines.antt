@@ -1,7 +1,7 @@
 -- The words of each kind of line, from left to right, and no more, as the grammar in docs/MANUAL.md (THE SCRIPT) has them. What the words ask
 -- for is judged afterwards.
 use Rattle.std.specs.Prelude.{ℕ, Bool, true, false, ◌==◌, if◌then◌else◌, List, [], ◌∷◌, map, Option, Some, None, Ok, codes}
-use Rattle.std.specs.Str.{bytes_eq}
+use Rattle.std.specs.Str.{bytes_eq, byte}
 use Rattle.mf_spelling.specs.Spelling.{step_word}
 use Rattle.mf_cred.specs.declared.cred.Cred.{Cred}
 use Rattle.mf_cred.specs.declared.cred.FileView.{FileView}
@@ -72,13 +72,10 @@ task_words ws = do
   u ← no_more label.1
   Ok (record { name = name.0; cred = cred.0; label = label.0 })
 
-abbrev pub at_sign : ℕ
-at_sign = 64
-
 -- the text behind `@`
 abbrev pub behind_at : List ℕ → Option (List ℕ)
 behind_at [] = None
-behind_at (b ∷ w) = if b == at_sign then Some w else None
+behind_at (b ∷ w) = if b == byte "@" then Some w else None
 
 -- a line of a task, by its first word: [ "@"NAME ] call
 unfoldable pub line_words : List ℕ → Words → Read Line

@@ -1,6 +1,5 @@
 -- The words of a line one by one, each with its fault, as the table of words in docs/MANUAL.md (THE SCRIPT) has them. A reader takes words
 -- from the front, and returns what it read and the words after it.
-use Rattle.mf_labeltext.specs.Bytes.{comma, slash}
 use Rattle.std.specs.Prelude.{ℕ, ◌-◌, Bool, true, false, ◌&&◌, ◌==◌, nat_lt, if◌then◌else◌, List, [], ◌∷◌, ◌++◌, length, map, Option, Some, None, Ok, codes}
 use Rattle.std.specs.Str.{byte, bytes_eq}
 use Rattle.mf_errno.specs.Privilege.{privilege_named}
@@ -140,7 +139,7 @@ with_group groups w = do
 
 -- numbers with a comma between each two
 unfoldable pub groups_of : List ℕ → Read (List ℕ)
-groups_of w = all_added with_group [] (parts comma w)
+groups_of w = all_added with_group [] (parts (byte ",") w)
 
 -- one component more, where there is room for it
 unfoldable pub with_component : List (List ℕ) → List ℕ → Read (List (List ℕ))
@@ -148,7 +147,7 @@ with_component path w = unless BadPath (nat_lt (length path) PATH_LIMIT && is_co
 
 -- components with a slash between each two
 unfoldable pub components_of : List ℕ → Read (List (List ℕ))
-components_of w = all_added with_component [] (parts slash w)
+components_of w = all_added with_component [] (parts (byte "/") w)
 
 -- what stands behind the first slash of a path: nothing in that of the root directory
 unfoldable pub behind_root : List ℕ → Read (List (List ℕ))
@@ -158,4 +157,4 @@ behind_root (b ∷ w) = components_of (b ∷ w)
 -- `/`, or a slash before each component
 unfoldable pub path_of : List ℕ → Read (List (List ℕ))
 path_of [] = fails BadPath
-path_of (b ∷ w) = unless BadPath (b == slash) >>= λ u. behind_root w
+path_of (b ∷ w) = unless BadPath (b == byte "/") >>= λ u. behind_root w

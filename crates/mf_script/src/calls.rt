@@ -9,7 +9,7 @@ ghost use Rattle.mf_script.specs.Calls.{call_in, call_named, call_words, calls, 
 
 use crate::error::ScriptFault;
 use crate::refusal::{Refusal, faulty};
-use crate::{Words, names, parts};
+use crate::{Words, names, numbers, parts};
 use mf_calls::Call;
 use std::alloc::Global;
 
@@ -48,7 +48,7 @@ fn chmod(alloc: Global, words: &mut Words) -> Result<Call, Refusal>
     ensures { Gives (λ c. (c, words.new)) result (two path_of mode_of call.Chmod words.old) }
 {
     let path = names::path(alloc, words)?;
-    let mode = parts::mode(words)?;
+    let mode = numbers::mode(words)?;
     Ok(Call::Chmod(path, mode))
 }
 
@@ -65,7 +65,7 @@ fn fwrite(alloc: Global, words: &mut Words) -> Result<Call, Refusal>
     ensures { Gives (λ c. (c, words.new)) result
         (two descriptor_of text_of call.Fwrite words.old) }
 {
-    let number = parts::descriptor(words)?;
+    let number = numbers::descriptor(words)?;
     let text = parts::text(alloc, words)?;
     Ok(Call::Fwrite(number, text))
 }
@@ -95,7 +95,7 @@ fn bind(alloc: Global, words: &mut Words) -> Result<Call, Refusal>
 {
     let name = names::name(alloc, words)?;
     let tcp = parts::protocol(words)?;
-    let port = parts::port(words)?;
+    let port = numbers::port(words)?;
     Ok(Call::Bind(name, tcp, port))
 }
 
@@ -119,7 +119,7 @@ fn add_rule(alloc: Global, words: &mut Words) -> Result<Call, Refusal>
 fn set_rule(alloc: Global, words: &mut Words) -> Result<Call, Refusal>
     ensures { Gives (λ c. (c, words.new)) result (set_rule words.old) }
 {
-    let number = parts::rule_number(words)?;
+    let number = numbers::rule_number(words)?;
     let rule = parts::rule(alloc, words)?;
     Ok(Call::UgidfwSet(number, rule))
 }
@@ -133,7 +133,7 @@ fn ugidfw_call(alloc: Global, name: &str, words: &mut Words) -> Result<Call, Ref
         "list" => Ok(Call::UgidfwList),
         "add" => add_rule(alloc, words),
         "set" => set_rule(alloc, words),
-        "remove" => parts::rule_number(words).map(Call::UgidfwRemove),
+        "remove" => numbers::rule_number(words).map(Call::UgidfwRemove),
         _ => Err(faulty(ScriptFault::UnknownWord)),
     }
 }
@@ -181,8 +181,8 @@ fn five_letter_call(alloc: Global, name: &str, words: &mut Words) -> Result<Call
         "write" => write(alloc, words),
         "mkdir" => names::path(alloc, words).map(Call::Mkdir),
         "chmod" => chmod(alloc, words),
-        "fread" => parts::descriptor(words).map(Call::Fread),
-        "close" => parts::descriptor(words).map(Call::Close),
+        "fread" => numbers::descriptor(words).map(Call::Fread),
+        "close" => numbers::descriptor(words).map(Call::Close),
         "debug" => names::process(alloc, words).map(Call::Debug),
         "sched" => names::process(alloc, words).map(Call::Sched),
         "pread" => names::name(alloc, words).map(Call::Pread),

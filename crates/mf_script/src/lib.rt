@@ -7,6 +7,7 @@ mod judging;
 mod law;
 mod lines;
 mod names;
+mod numbers;
 mod parts;
 mod reading;
 mod refusal;

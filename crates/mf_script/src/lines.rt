@@ -7,7 +7,7 @@ ghost use Rattle.mf_script.specs.Lines.{boot_words, tunable_words, file_content,
 
 use crate::error::ScriptFault;
 use crate::refusal::{Refusal, faulty};
-use crate::{Words, calls, names, parts};
+use crate::{Words, calls, names, numbers, parts};
 use mf_calls::{Bytes, Line, Name, Path, SCRIPT_LIMIT, Step, StepKind, Word};
 use mf_cred::{Cred, FileView};
 use std::alloc::Global;
@@ -77,9 +77,9 @@ fn file_view(words: &mut Words) -> Result<FileView, Refusal>
     ensures { Gives (λ f. (f, words.new)) result (file_view words.old) }
 {
     let dir = parts::is_directory(words)?;
-    let uid = parts::number_field(words, "uid")?;
-    let gid = parts::number_field(words, "gid")?;
-    let mode = parts::mode_field(words, "mode")?;
+    let uid = numbers::number_field(words, "uid")?;
+    let gid = numbers::number_field(words, "gid")?;
+    let mode = numbers::mode_field(words, "mode")?;
     Ok(FileView {
         uid,
         gid,
@@ -111,8 +111,8 @@ pub fn file_words(alloc: Global, words: &mut Words) -> Result<FileWords, Refusal
 fn cred_words(words: &mut Words) -> Result<Cred, Refusal>
     ensures { Gives (λ c. (c, words.new)) result (cred_words words.old) }
 {
-    let uid = parts::number_field(words, "uid")?;
-    let groups = parts::groups_field(words, "gid")?;
+    let uid = numbers::number_field(words, "uid")?;
+    let groups = numbers::groups_field(words, "gid")?;
     Ok(Cred {
         uid,
         ruid: uid,

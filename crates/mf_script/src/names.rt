@@ -1,8 +1,8 @@
 //! Readers of names and paths.
 #![tactic(auto, unfolding(crate::specs::Readers::and_then))]
 
+ghost use Rattle.std.specs.Str.{byte};
 ghost use Rattle.std.specs.Prelude.{◌≡◌, ◌≢◌, ◌<◌, ◌≤◌, ◌∷◌, MatchOption, List, ℕ};
-ghost use Rattle.mf_labeltext.specs.Bytes.{slash};
 ghost use Rattle.mf_labeltext.specs.Reading.{parts};
 ghost use Rattle.mf_calls.specs.Names.{is_process_name};
 ghost use Rattle.mf_script.specs.Gives.{Gives};
@@ -93,7 +93,7 @@ fn add_component(path: &mut Path, word: &str) -> Result<(), Refusal>
 /// Adds the components of the word.
 fn add_components(path: &mut Path, word: &str) -> Result<(), Refusal>
     ensures { Gives (λ u. path.new) result
-        (all_added with_component path.old (parts slash word.now)) }
+        (all_added with_component path.old (parts (byte "/") word.now)) }
 {
     let mut rest = word;
     while let Some((component, after)) = split_at(rest, '/') {

@@ -296,9 +296,30 @@ fn go_to<T: Drop>(place: &mut T, next: Result<T, Refusal>) -> Result<(), Refusal
     Ok(())
 }
 
-/// Takes a line at this place, by its first word, and goes on to the place of the next line.
+/// Takes a line at this place, by its first word, and goes on to the place of the next line. Most are lines inside a task, which leave
+/// the place where it is: they make none, and so need no room for one.
 #[tactic(auto, unfolding(crate::specs::Grammar::row_in, crate::specs::Grammar::in_task))]
 fn row(
+    alloc: Global,
+    script: &mut Script,
+    place: &mut Place,
+    first: &str,
+    words: &mut Words,
+) -> Result<(), Refusal>
+    ensures { Gives (λ u. (script.new, place.new)) result
+        (row_in script.old place.old first.now words.old) }
+{
+    if first != "end" {
+        if let Place::Task(task, lists) = place {
+            return line_row(alloc, task, lists, first, words);
+        }
+    }
+    any_row(alloc, script, place, first, words)
+}
+
+/// The same of any line.
+#[tactic(auto, unfolding(crate::specs::Grammar::row_in, crate::specs::Grammar::in_task))]
+fn any_row(
     alloc: Global,
     script: &mut Script,
     place: &mut Place,

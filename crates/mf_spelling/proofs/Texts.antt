@@ -3,18 +3,18 @@ use Rattle.std.proofs.Common.{◌≡◌, ℕ, ◌≤◌, false, eqb, Result, Ok,
 use Rattle.std.proofs.lemmas.List.{length-take, take-take}
 use Rattle.std.proofs.lemmas.List.Concat.{flat_map-cons}
 use Rattle.std.specs.List.{flat_map, join_with_byte}
+use Rattle.std.specs.Str.{byte}
 use Rattle.mf_text.specs.Appending.{Extends}
-use Rattle.mf_labeltext.specs.Bytes.{slash}
 use Rattle.mf_spelling.specs.Spelling.{Pieces}
 use Rattle.mf_spelling.specs.Canonical.{piece_text, words_behind}
 use Rattle.mf_spelling.specs.Printed.{behind_first, first_alone}
 
-components_joined : (name : List ℕ) (names : List (List ℕ)) → flat_map (λ name. slash ∷ name) (name ∷ names) ≡ slash ∷ join_with_byte slash (name ∷ names)
-components_joined name [] = ap (λ more. slash ∷ more) (append-nil name)
-components_joined name (next ∷ names) = flat_map-cons (λ name. slash ∷ name) name (next ∷ names) ∙ ap (λ more. slash ∷ (name ++ more)) (components_joined next names)
+components_joined : (name : List ℕ) (names : List (List ℕ)) → flat_map (λ name. byte "/" ∷ name) (name ∷ names) ≡ byte "/" ∷ join_with_byte (byte "/") (name ∷ names)
+components_joined name [] = ap (λ more. byte "/" ∷ more) (append-nil name)
+components_joined name (next ∷ names) = flat_map-cons (λ name. byte "/" ∷ name) name (next ∷ names) ∙ ap (λ more. byte "/" ∷ (name ++ more)) (components_joined next names)
 
 -- a slash before each component
-pub path_joined : (names : List (List ℕ)) → eqb (length names) 0 ≡ false → flat_map (λ name. slash ∷ name) names ≡ slash ∷ join_with_byte slash names
+pub path_joined : (names : List (List ℕ)) → eqb (length names) 0 ≡ false → flat_map (λ name. byte "/" ∷ name) names ≡ byte "/" ∷ join_with_byte (byte "/") names
 path_joined [] some = cc
 path_joined (name ∷ names) some = components_joined name names
 
@@ -25,9 +25,9 @@ extends_through front middle text one other =
 
 -- a space and the path
 pub path_pushed : {A E : Type 0} (pushed : Result A E) (front middle text : List ℕ) (names : List (List ℕ)) → eqb (length names) 0 ≡ false → middle ≡ front ++ 32 ∷ []
-    → OnOk pushed (text ≡ middle ++ flat_map (λ name. slash ∷ name) names) → OnOk pushed (text ≡ front ++ 32 ∷ slash ∷ join_with_byte slash names)
+    → OnOk pushed (text ≡ middle ++ flat_map (λ name. byte "/" ∷ name) names) → OnOk pushed (text ≡ front ++ 32 ∷ byte "/" ∷ join_with_byte (byte "/") names)
 path_pushed (Ok x) front middle text names some space is =
-    is ∙ ap (λ front. front ++ flat_map (λ name. slash ∷ name) names) space ∙ append_assoc front (32 ∷ []) _ ∙ ap (λ path. front ++ 32 ∷ path) (path_joined names some)
+    is ∙ ap (λ front. front ++ flat_map (λ name. byte "/" ∷ name) names) space ∙ append_assoc front (32 ∷ []) _ ∙ ap (λ path. front ++ 32 ∷ path) (path_joined names some)
 path_pushed (Err e) front middle text names some space is = tt
 
 -- the words of a call, parted behind the first of them

@@ -1,9 +1,9 @@
 //! The lines of a script, one function for each kind.
+ghost use Rattle.std.specs.Str.{byte};
 ghost use Rattle.std.specs.Prelude.{◌≡◌, ◌∷◌, ◌++◌, true, OnOk, OnErr, codes, string_bytes};
 ghost use Rattle.std.specs.Option.{option_copied};
 ghost use Rattle.std.specs.Fmt.{decimal};
 ghost use Rattle.mf_text.specs.Appending.{Extends};
-ghost use Rattle.mf_words.specs.Words.{space};
 ghost use Rattle.mf_spelling.specs.Spelling.{boot_pieces, file_pieces, line_pieces, step_pieces, step_word, task_pieces, text_pieces, tunable_pieces};
 ghost use Rattle.mf_spelling.specs.Canonical.{line_text, octal, words_behind};
 ghost use Rattle.mf_spelling.specs.Printed.{Adds, attribute_pieces, caller_text, credential_pieces, inside_pieces, kind_word, owner_pieces};
@@ -91,7 +91,7 @@ fn kind_name(dir: bool) -> &'static str
 
 /// What a number is, and the number.
 fn push_field(title: &str, number: u32, out: &mut String) -> Result<(), AllocError>
-    ensures ok { OnOk result (Adds out.old out.new (title.now ++ space ∷ decimal number)) }
+    ensures ok { OnOk result (Adds out.old out.new (title.now ++ byte " " ∷ decimal number)) }
     ensures err { OnErr result (Extends (string_bytes out.old) (string_bytes out.new)) }
 {
     out.push_str(title)?;

@@ -7,9 +7,7 @@ ghost use Rattle.mf_errno.specs.declared.module.Module.TheVariants.{Lomac};
 ghost use Rattle.mf_elem.specs.Label.{element_alone};
 ghost use Rattle.mf_text.specs.Appending.{Extends};
 ghost use Rattle.mf_text.specs.Escape.{escaped};
-ghost use Rattle.mf_labeltext.specs.Bytes.{comma, slash};
 ghost use Rattle.mf_rule.specs.Canonical.{rule_text};
-ghost use Rattle.mf_words.specs.Words.{space};
 ghost use Rattle.mf_spelling.specs.Spelling.{Label, path};
 ghost use Rattle.mf_spelling.specs.Canonical.{groups_text, number_part, octal, parts_asked, piece_text, range_part};
 ghost use Rattle.mf_spelling.specs.Printed.{Adds};
@@ -27,7 +25,7 @@ use std::alloc::{AllocError, Global};
 type Part = (Module, LabelValue);
 
 pub fn push_word(word: &str, out: &mut String) -> Result<(), AllocError>
-    ensures ok { OnOk result (Adds out.old out.new (space ∷ word.now)) }
+    ensures ok { OnOk result (Adds out.old out.new (byte " " ∷ word.now)) }
     ensures err { OnErr result (Extends (string_bytes out.old) (string_bytes out.new)) }
 {
     out.push(' ')?;
@@ -35,7 +33,7 @@ pub fn push_word(word: &str, out: &mut String) -> Result<(), AllocError>
 }
 
 pub fn push_number(number: u32, out: &mut String) -> Result<(), AllocError>
-    ensures ok { OnOk result (Adds out.old out.new (space ∷ decimal number)) }
+    ensures ok { OnOk result (Adds out.old out.new (byte " " ∷ decimal number)) }
     ensures err { OnErr result (Extends (string_bytes out.old) (string_bytes out.new)) }
 {
     out.push(' ')?;
@@ -44,7 +42,7 @@ pub fn push_number(number: u32, out: &mut String) -> Result<(), AllocError>
 
 /// A mode in octal digits.
 pub fn push_mode(mode: u16, out: &mut String) -> Result<(), AllocError>
-    ensures ok { OnOk result (Adds out.old out.new (space ∷ octal mode)) }
+    ensures ok { OnOk result (Adds out.old out.new (byte " " ∷ octal mode)) }
     ensures err { OnErr result (Extends (string_bytes out.old) (string_bytes out.new)) }
 {
     // No clause says what `write!` leaves of `out` where it fails.
@@ -54,7 +52,7 @@ pub fn push_mode(mode: u16, out: &mut String) -> Result<(), AllocError>
 
 /// Bytes as a text with escapes.
 pub fn push_text(bytes: &[u8], out: &mut String) -> Result<(), AllocError>
-    ensures ok { OnOk result (Adds out.old out.new (space ∷ escaped bytes.now)) }
+    ensures ok { OnOk result (Adds out.old out.new (byte " " ∷ escaped bytes.now)) }
     ensures err { OnErr result (Extends (string_bytes out.old) (string_bytes out.new)) }
 {
     out.push(' ')?;
@@ -63,7 +61,7 @@ pub fn push_text(bytes: &[u8], out: &mut String) -> Result<(), AllocError>
 
 /// The words of a rule.
 pub fn push_rule(rule: &Rule, out: &mut String) -> Result<(), AllocError>
-    ensures ok { OnOk result (Adds out.old out.new (space ∷ rule_text rule.now)) }
+    ensures ok { OnOk result (Adds out.old out.new (byte " " ∷ rule_text rule.now)) }
     ensures err { OnErr result (Extends (string_bytes out.old) (string_bytes out.new)) }
 {
     out.push(' ')?;
@@ -72,7 +70,7 @@ pub fn push_rule(rule: &Rule, out: &mut String) -> Result<(), AllocError>
 
 /// A setting and its value, with an equals sign between them.
 pub fn push_setting(name: &str, value: &str, out: &mut String) -> Result<(), AllocError>
-    ensures ok { OnOk result (Adds out.old out.new (space ∷ (name.now ++ byte "=" ∷ value.now))) }
+    ensures ok { OnOk result (Adds out.old out.new (byte " " ∷ (name.now ++ byte "=" ∷ value.now))) }
     ensures err { OnErr result (Extends (string_bytes out.old) (string_bytes out.new)) }
 {
     push_word(name, out)?;
@@ -82,7 +80,7 @@ pub fn push_setting(name: &str, value: &str, out: &mut String) -> Result<(), All
 
 /// A path: a slash for the root, and else a slash before each component.
 pub fn push_path(names: &Path, out: &mut String) -> Result<(), AllocError>
-    ensures ok { OnOk result (Adds out.old out.new (space ∷ piece_text (path names.now))) }
+    ensures ok { OnOk result (Adds out.old out.new (byte " " ∷ piece_text (path names.now))) }
     ensures err { OnErr result (Extends (string_bytes out.old) (string_bytes out.new)) }
 {
     if names.depth() == 0 {
@@ -93,7 +91,7 @@ pub fn push_path(names: &Path, out: &mut String) -> Result<(), AllocError>
 }
 
 fn push_components(path: &Path, out: &mut String) -> Result<(), AllocError>
-    ensures ok { OnOk result (Adds out.old out.new (flat_map (λ name. slash ∷ name) path.now)) }
+    ensures ok { OnOk result (Adds out.old out.new (flat_map (λ name. byte "/" ∷ name) path.now)) }
     ensures err { OnErr result (Extends (string_bytes out.old) (string_bytes out.new)) }
 {
     let mut names = path.components();
@@ -104,7 +102,7 @@ fn push_components(path: &Path, out: &mut String) -> Result<(), AllocError>
 }
 
 fn push_component(name: &str, out: &mut String) -> Result<(), AllocError>
-    ensures ok { OnOk result (Adds out.old out.new (slash ∷ name.now)) }
+    ensures ok { OnOk result (Adds out.old out.new (byte "/" ∷ name.now)) }
     ensures err { OnErr result (Extends (string_bytes out.old) (string_bytes out.new)) }
 {
     out.push('/')?;
@@ -113,7 +111,7 @@ fn push_component(name: &str, out: &mut String) -> Result<(), AllocError>
 
 /// Numbers with a comma between each two.
 pub fn push_groups(groups: &[u32], out: &mut String) -> Result<(), AllocError>
-    ensures ok { OnOk result (Adds out.old out.new (space ∷ groups_text groups.now)) }
+    ensures ok { OnOk result (Adds out.old out.new (byte " " ∷ groups_text groups.now)) }
     ensures err { OnErr result (Extends (string_bytes out.old) (string_bytes out.new)) }
 {
     let Some((first, more)) = groups.split_first() else {
@@ -125,7 +123,7 @@ pub fn push_groups(groups: &[u32], out: &mut String) -> Result<(), AllocError>
 
 fn push_more_groups(groups: &[u32], out: &mut String) -> Result<(), AllocError>
     ensures ok { OnOk result
-        (Adds out.old out.new (flat_map (λ next. comma ∷ decimal next) groups.now)) }
+        (Adds out.old out.new (flat_map (λ next. byte "," ∷ decimal next) groups.now)) }
     ensures err { OnErr result (Extends (string_bytes out.old) (string_bytes out.new)) }
 {
     for group in groups {
@@ -135,7 +133,7 @@ fn push_more_groups(groups: &[u32], out: &mut String) -> Result<(), AllocError>
 }
 
 fn push_next_group(group: u32, out: &mut String) -> Result<(), AllocError>
-    ensures ok { OnOk result (Adds out.old out.new (comma ∷ decimal group)) }
+    ensures ok { OnOk result (Adds out.old out.new (byte "," ∷ decimal group)) }
     ensures err { OnErr result (Extends (string_bytes out.old) (string_bytes out.new)) }
 {
     out.push(',')?;
@@ -144,7 +142,7 @@ fn push_next_group(group: u32, out: &mut String) -> Result<(), AllocError>
 
 /// What is asked of a label, or `-` for nothing.
 pub fn push_label(alloc: Global, request: &Request, out: &mut String) -> Result<(), AllocError>
-    ensures ok { OnOk result (Adds out.old out.new (space ∷ piece_text (Label request.now))) }
+    ensures ok { OnOk result (Adds out.old out.new (byte " " ∷ piece_text (Label request.now))) }
     ensures err { OnErr result (Extends (string_bytes out.old) (string_bytes out.new)) }
 {
     let parts = parts_asked(request);

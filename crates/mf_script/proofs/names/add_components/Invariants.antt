@@ -1,4 +1,4 @@
-use Rattle.mf_labeltext.specs.Bytes.{slash}
+use Rattle.std.specs.Str.{byte}
 use Rattle.mf_labeltext.specs.Reading.{parts}
 use Rattle.std.proofs.Common.{◌≡◌, length}
 use denote.Shadow.{shadow}
@@ -8,7 +8,7 @@ use Rattle.mf_script.proofs.names.add_components.Given as goal
 
 abbrev pub invariant-loop-component : goal.invariant-loop-component
 invariant-loop-component l = record {
-  so_far : all_added with_component l.path (parts slash l.rest) ≡ all_added with_component l.fn.path (parts slash l.word);
+  so_far : all_added with_component l.path (parts (byte "/") l.rest) ≡ all_added with_component l.fn.path (parts (byte "/") l.word);
   text : shadow (Utf8 l.rest);
 }
 

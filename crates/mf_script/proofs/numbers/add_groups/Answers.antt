@@ -1,6 +1,6 @@
 use Rattle.mf_script.specs.Parts.{with_group, all_added}
 use Rattle.mf_script.proofs.Added.{part_fails, part_adds, last_part}
-use Rattle.mf_script.proofs.parts.add_groups.Goals as goal
+use Rattle.mf_script.proofs.numbers.add_groups.Goals as goal
 
 pub returns-in-Err : goal.returns-in-Err
 unfolding all_added

@@ -5,7 +5,7 @@ use Rattle.mf_script.specs.declared.refusal.Refusal.{Refusal}
 use Rattle.mf_script.specs.declared.rows.Place.{Place}
 use Rattle.mf_script.specs.Gives.{Gives}
 use Rattle.mf_script.specs.Grammar.{Reading, row_in}
-use Rattle.mf_script.proofs.rows.row.Goals as goal
+use Rattle.mf_script.proofs.rows.any_row.Goals as goal
 
 -- what is read at a place, by which place it is
 at_place : (view : Unit {0} → Reading) (result : Result (Unit {0}) Refusal) (s : Script) (p q : Place) (w : List ℕ) (ws : Words) → p ≡ q
