@@ -34,7 +34,7 @@ use Rattle.mf_script.specs.Lines.{boot_words, tunable_words, file_view, file_wor
 use Rattle.mf_script.specs.Grammar.{tunable_in, judged_tunable, has_path, booted_after, judged_boot, judged_module, file_label, judged_file, judged_request}
 use Rattle.mf_spelling.specs.Spelling.{Piece, Word, Decimal, Octal, Groups, Text, Setting, Label, Pieces, path, Spells, SpellLine, boot_pieces, switch_word, file_pieces, text_pieces, task_pieces, step_word, step_pieces}
 use Rattle.mf_spelled.proofs.WordsBack.{IsRead, passes, any_back, name_back, number_back, mode_back, text_back, sides_back, path_back, groups_back, request_back}
-use Rattle.mf_spelled.proofs.CallsBack.{IsSingle, IsFront, front, none, word_read}
+use Rattle.mf_spelled.proofs.Lines.{IsSingle, IsFront, front, none, word_read}
 
 -- the word that says what comes, and the word behind it
 record IsFieldRead {A : Type 0} (text : List ℕ) (read : List ℕ → Read A) (ws : Words) (x : A) (pieces : Pieces) : Type 0 where

@@ -8,7 +8,6 @@ use Rattle.std.proofs.lemmas.List.Elements.{All-head, All-tail}
 use Rattle.std.specs.Char.{is_ascii_graphic}
 use Rattle.std.specs.List.{list_all, slice_split, join_with_byte}
 use Rattle.std.specs.Str.{byte, bytes_eq}
-use Rattle.mf_labeltext.specs.Bytes.{slash}
 use Rattle.mf_labeltext.specs.Reading.{parts}
 use Rattle.mf_labeltext.proofs.Cutting.{join_parts}
 use Rattle.mf_calls.specs.Names.{is_some_text, is_name, is_name_byte, is_component, is_component_byte, is_process_name}
@@ -34,14 +33,14 @@ component_bytes w h =
     let c = both (is_some_text w && nat_le (length w) 32) (list_all is_component_byte w) b.0 in
     all_map is_component_byte is_ascii_graphic w component_graphic c.1
 
-joined_bytes : (names : List (List ℕ)) → All (λ name. is_component name ≡ true) names → list_all is_ascii_graphic (join_with_byte slash names) ≡ true
+joined_bytes : (names : List (List ℕ)) → All (λ name. is_component name ≡ true) names → list_all is_ascii_graphic (join_with_byte (byte "/") names) ≡ true
 joined_bytes [] each = refl
 joined_bytes (name ∷ []) each = component_bytes name (All-head (λ name. is_component name ≡ true) name [] each)
 joined_bytes (name ∷ next ∷ names) each =
-    all_append is_ascii_graphic name (slash ∷ join_with_byte slash (next ∷ names)) (component_bytes name (All-head (λ name. is_component name ≡ true) name (next ∷ names) each))
+    all_append is_ascii_graphic name (byte "/" ∷ join_with_byte (byte "/") (next ∷ names)) (component_bytes name (All-head (λ name. is_component name ≡ true) name (next ∷ names) each))
     (joined_bytes (next ∷ names) (All-tail (λ name. is_component name ≡ true) name (next ∷ names) each))
 
-pub path_word : (names : List (List ℕ)) → IsPath names → is_word (slash ∷ join_with_byte slash names) ≡ true
+pub path_word : (names : List (List ℕ)) → IsPath names → is_word (byte "/" ∷ join_with_byte (byte "/") names) ≡ true
 path_word names formed = joined_bytes names formed.each
 
 -- the full name of a process: its task's name, and a dot and the child's behind it

@@ -10,11 +10,11 @@ use Rattle.std.specs.Char.{is_digit, digit_value, digit_char, is_ascii_graphic}
 use Rattle.std.specs.Fmt.{decimal}
 use Rattle.std.specs.List.{AllByRecursion, position, position_or_len, list_all, flat_map, join_with_byte}
 use Rattle.std.specs.Str.Parse.{AllDigits, IsNumeral, digits_value}
+use Rattle.std.specs.Str.{byte}
 use Rattle.mf_text.specs.Number.{number_in}
 use Rattle.mf_text.proofs.Numerals.{within, unless_other}
 use Rattle.mf_text.specs.Escape.{bytes_of, escaped, escaped_byte, is_literal}
 use Rattle.mf_text.proofs.Unescaping.{escaped_stands}
-use Rattle.mf_labeltext.specs.Bytes.{comma}
 use Rattle.mf_labeltext.specs.Reading.{parts}
 use Rattle.mf_labeltext.proofs.Cutting.{IsFree, parts_join}
 use Rattle.mf_labeltext.proofs.Numbers.{digits_free}
@@ -74,17 +74,17 @@ octal_word n below = numeral_word 8 (octal n) (lit≤ tt) (digits_is_IsNumeral 8
 
 -- Lists of numbers
 
-groups_joined : (group : ℕ) (groups : List ℕ) → groups_text (group ∷ groups) ≡ join_with_byte comma (map decimal (group ∷ groups))
+groups_joined : (group : ℕ) (groups : List ℕ) → groups_text (group ∷ groups) ≡ join_with_byte (byte ",") (map decimal (group ∷ groups))
 groups_joined group [] = search rules
 groups_joined group (next ∷ groups) =
-    ap (λ more. decimal group ++ more) (flat_map-cons (λ next. comma ∷ decimal next) next groups)
-    ∙ ap (λ more. decimal group ++ comma ∷ more) (groups_joined next groups)
+    ap (λ more. decimal group ++ more) (flat_map-cons (λ next. byte "," ∷ decimal next) next groups)
+    ∙ ap (λ more. decimal group ++ byte "," ∷ more) (groups_joined next groups)
 
-numbers_free : (groups : List ℕ) → All (λ group. group ≤ UID_MAX) groups → AllByRecursion (IsFree comma) (map decimal groups)
+numbers_free : (groups : List ℕ) → All (λ group. group ≤ UID_MAX) groups → AllByRecursion (IsFree (byte ",")) (map decimal groups)
 numbers_free [] each = tt
 numbers_free (group ∷ groups) each =
     let fits : group ≤ UID_MAX = All-head (λ group. group ≤ UID_MAX) group groups each in
-    (digits_free comma (decimal group) (lit≤ tt) (decimal_is_IsNumeral group (omega (arith, fits))).0.1, numbers_free groups (All-tail (λ group. group ≤ UID_MAX) group groups each))
+    (digits_free (byte ",") (decimal group) (lit≤ tt) (decimal_is_IsNumeral group (omega (arith, fits))).0.1, numbers_free groups (All-tail (λ group. group ≤ UID_MAX) group groups each))
 
 numbers_back : (groups : List ℕ) → All (λ group. group ≤ UID_MAX) groups → map (number_in 10 0 UID_MAX) (map decimal groups) ≡ map Ok groups
 numbers_back [] each = refl
@@ -92,20 +92,20 @@ numbers_back (group ∷ groups) each =
     let here = number_back UID_MAX group (lit≤ tt) (All-head (λ group. group ≤ UID_MAX) group groups each) in
     let more = numbers_back groups (All-tail (λ group. group ≤ UID_MAX) group groups each) in cc
 
-pub groups_back : (groups : List ℕ) → groups ≢ [] → All (λ group. group ≤ UID_MAX) groups → map (number_in 10 0 UID_MAX) (parts comma (groups_text groups)) ≡ map Ok groups
+pub groups_back : (groups : List ℕ) → groups ≢ [] → All (λ group. group ≤ UID_MAX) groups → map (number_in 10 0 UID_MAX) (parts (byte ",") (groups_text groups)) ≡ map Ok groups
 groups_back [] some each = absurd (some refl)
 groups_back (group ∷ groups) some each =
-    ap (λ text. map (number_in 10 0 UID_MAX) (parts comma text)) (groups_joined group groups)
-    ∙ ap (map (number_in 10 0 UID_MAX)) (parts_join comma (map decimal (group ∷ groups)) (λ e. cc) (numbers_free (group ∷ groups) each))
+    ap (λ text. map (number_in 10 0 UID_MAX) (parts (byte ",") text)) (groups_joined group groups)
+    ∙ ap (map (number_in 10 0 UID_MAX)) (parts_join (byte ",") (map decimal (group ∷ groups)) (λ e. cc) (numbers_free (group ∷ groups) each))
     ∙ numbers_back (group ∷ groups) each
 
-more_graphic : (groups : List ℕ) → All (λ group. group ≤ UID_MAX) groups → list_all is_ascii_graphic (flat_map (λ next. comma ∷ decimal next) groups) ≡ true
+more_graphic : (groups : List ℕ) → All (λ group. group ≤ UID_MAX) groups → list_all is_ascii_graphic (flat_map (λ next. byte "," ∷ decimal next) groups) ≡ true
 more_graphic [] each = refl
 more_graphic (group ∷ groups) each =
     let fits : group ≤ UID_MAX = All-head (λ group. group ≤ UID_MAX) group groups each in
     let here = (both (is_some_text (decimal group)) (list_all is_ascii_graphic (decimal group)) (decimal_word group (omega (arith, fits)))).1 in
-    ap (list_all is_ascii_graphic) (flat_map-cons (λ next. comma ∷ decimal next) group groups)
-    ∙ all_append is_ascii_graphic (decimal group) (flat_map (λ next. comma ∷ decimal next) groups) here (more_graphic groups (All-tail (λ group. group ≤ UID_MAX) group groups each))
+    ap (list_all is_ascii_graphic) (flat_map-cons (λ next. byte "," ∷ decimal next) group groups)
+    ∙ all_append is_ascii_graphic (decimal group) (flat_map (λ next. byte "," ∷ decimal next) groups) here (more_graphic groups (All-tail (λ group. group ≤ UID_MAX) group groups each))
 
 pub word_more : (a b : List ℕ) → is_word a ≡ true → list_all is_ascii_graphic b ≡ true → is_word (a ++ b) ≡ true
 word_more [] b word all = absurd (cc)
@@ -115,7 +115,7 @@ pub groups_word : (groups : List ℕ) → groups ≢ [] → All (λ group. group
 groups_word [] some each = absurd (some refl)
 groups_word (group ∷ groups) some each =
     let fits : group ≤ UID_MAX = All-head (λ group. group ≤ UID_MAX) group groups each in
-    word_more (decimal group) (flat_map (λ next. comma ∷ decimal next) groups) (decimal_word group (omega (arith, fits)))
+    word_more (decimal group) (flat_map (λ next. byte "," ∷ decimal next) groups) (decimal_word group (omega (arith, fits)))
     (more_graphic groups (All-tail (λ group. group ≤ UID_MAX) group groups each))
 
 -- Bytes

@@ -13,7 +13,7 @@ use Rattle.mf_script.specs.Grammar.{Reading, row_in, words_line, line_read, or_a
 use Rattle.mf_script.proofs.ScriptWords.{both}
 use Rattle.mf_spelling.specs.Spelling.{is_line_byte, Word, Pieces, SpellLine, says, sayings}
 use Rattle.mf_spelled.proofs.WordsBack.{passes}
-use Rattle.mf_spelled.proofs.CallsBack.{front}
+use Rattle.mf_spelled.proofs.Lines.{front}
 
 -- the words of lines one after another
 pub fold : Script → Place → List Words → Read Reading

@@ -1,5 +1,5 @@
 -- The canonical text of a script spells it.
-use Rattle.std.proofs.Common.{◌≡◌, ◌≢◌, ℕ, ◌<◌, ◌≤◌, ◌==◌, ◌||◌, Bool, true, false, List, [], ◌∷◌, ◌++◌, length, map, Option, Some, None, refl, sym, ap, ◌∙◌, subst, arith, inl, inr, append-nil, lit<, lit≤}
+use Rattle.std.proofs.Common.{◌≡◌, ◌≢◌, ℕ, ◌<◌, ◌≤◌, ◌==◌, Bool, true, false, List, [], ◌∷◌, ◌++◌, length, map, Option, Some, None, refl, sym, ap, ◌∙◌, subst, arith, inl, inr, append-nil, lit<, lit≤}
 use Rattle.std.specs.Prelude.{All, codes, get_or, not, if◌then◌else◌}
 use Rattle.std.proofs.lemmas.List.Elements.{All-nil, All-cons, All-head, All-tail}
 use Rattle.std.proofs.lemmas.List.Concat.{flat_map-cons}
@@ -7,11 +7,8 @@ use Rattle.std.specs.List.{flat_map, list_all, AllZip}
 use Rattle.std.specs.Option.{IfSome}
 use Rattle.std.specs.Char.{is_ascii_graphic}
 use Rattle.std.specs.Str.{byte}
-use Rattle.mf_errno.specs.Privilege.{privilege_text}
 use Rattle.mf_errno.specs.declared.module.Module.{Module}
 use Rattle.mf_errno.specs.declared.module.Module.TheVariants as modules
-use Rattle.mf_errno.specs.declared.privilege.Priv.{Priv}
-use Rattle.mf_errno.specs.declared.privilege.Priv.TheVariants as privileges
 use Rattle.mf_elem.specs.declared.label.Request.{Request}
 use Rattle.mf_item.specs.declared.view.Kind.{Kind}
 use Rattle.mf_item.specs.declared.view.Kind.TheVariants as kinds
@@ -21,7 +18,6 @@ use Rattle.mf_calls.specs.Names.{is_name, is_some_text}
 use Rattle.mf_calls.specs.Tunable.{revocation_name}
 use Rattle.mf_calls.specs.WellFormed.{IsPrintable, IsAsked, IsFormedCall, IsFormedFile, IsFormedLine, IsFormedTask, IsWellFormed, IsName}
 use Rattle.mf_calls.specs.declared.script.Call.{Call}
-use Rattle.mf_calls.specs.declared.script.Call.TheVariants as call
 use Rattle.mf_calls.specs.declared.script.FileLine.{FileLine}
 use Rattle.mf_calls.specs.declared.script.Line.{Line}
 use Rattle.mf_calls.specs.declared.script.Step.{Step}
@@ -29,10 +25,11 @@ use Rattle.mf_calls.specs.declared.script.StepKind.{StepKind}
 use Rattle.mf_calls.specs.declared.script.StepKind.TheVariants as steps
 use Rattle.mf_calls.specs.declared.script.Task.{Task}
 use Rattle.mf_calls.specs.declared.script.Script.{Script}
-use Rattle.mf_spelling.specs.Spelling.{Pieces, IsTextOf, sayings, is_line_byte, call_pieces, line_pieces, boot_pieces, tunable_pieces, open_mode, protocol, file_pieces, text_pieces, task_pieces, step_pieces, task_rows, step_rows, SayTunable, SaySteps, front_rows, SpellLine, Word}
+use Rattle.mf_spelling.specs.Spelling.{Pieces, IsTextOf, sayings, is_line_byte, call_pieces, line_pieces, boot_pieces, tunable_pieces, file_pieces, text_pieces, task_pieces, step_pieces, task_rows, step_rows, SayTunable, SaySteps, front_rows, SpellLine, Word}
 use Rattle.mf_spelling.specs.Canonical.{line_text, lines_text, tunable_text, task_text, steps_text, script_text, IsSpellableCall, IsSpellable}
+use Rattle.mf_spelled.proofs.CallRows.{opening, row_of}
 use Rattle.mf_spelled.proofs.WordTexts.{is_word, both}
-use Rattle.mf_spelled.proofs.NameTexts.{name_word, path_word, process_word, any_word}
+use Rattle.mf_spelled.proofs.NameTexts.{name_word, path_word}
 use Rattle.mf_spelled.proofs.PieceTexts.{AreOfWords}
 use Rattle.mf_spelled.specs.Laws.{CanonicalTextsAreRead, CanonicalTextsSpell}
 use Rattle.mf_spelled.proofs.ScriptsBack.{spelled_read}
@@ -40,126 +37,25 @@ use Rattle.mf_spelled.proofs.LineTexts.{IsRow, AreRows, no_rows, rows_append, on
 
 -- Calls
 
-privilege_word : (p : Priv) → is_word (privilege_text p) ≡ true
-privilege_word privileges.KldLoad = refl
-privilege_word privileges.KldUnload = refl
-privilege_word privileges.MacPartition = refl
-privilege_word privileges.SchedRtprio = refl
-privilege_word privileges.SchedIdprio = refl
-
-open_mode_word : (read write : Bool) → (read || write) ≡ true → is_word (open_mode read write) ≡ true
-open_mode_word true true some = refl
-open_mode_word true false some = refl
-open_mode_word false true some = refl
-open_mode_word false false some = absurd cc
-
-protocol_word : (tcp : Bool) → is_word (protocol tcp) ≡ true
-protocol_word true = refl
-protocol_word false = refl
-
 call_row : (c : Call) → IsFormedCall c → IsSpellableCall c → IsRow (call_pieces c)
-call_row (call.Fork child) formed spellable = (refl, refl, (name_word child formed, tt))
-call_row call.Exit formed spellable = (refl, refl, tt)
-call_row (call.See process) formed spellable = (refl, refl, (process_word process formed, tt))
-call_row (call.Signal process) formed spellable = (refl, refl, (process_word process formed, tt))
-call_row (call.Debug process) formed spellable = (refl, refl, (process_word process formed, tt))
-call_row (call.Sched process) formed spellable = (refl, refl, (process_word process formed, tt))
-call_row (call.Priv p) formed spellable = (refl, refl, (privilege_word p, tt))
-call_row call.Getpmac formed spellable = (refl, refl, tt)
-call_row (call.Setpmac label) formed spellable = (refl, refl, (any_word label formed, tt))
-call_row (call.Exec p) formed spellable = (refl, refl, (path_word p formed, tt))
-call_row (call.Create p) formed spellable = (refl, refl, (path_word p formed, tt))
-call_row (call.Mkdir p) formed spellable = (refl, refl, (path_word p formed, tt))
-call_row (call.Read p) formed spellable = (refl, refl, (path_word p formed, tt))
-call_row (call.Write p text) formed spellable = (refl, refl, (path_word p formed.0, ((spellable, formed.1.each), tt)))
-call_row (call.Stat p) formed spellable = (refl, refl, (path_word p formed, tt))
-call_row (call.Getfmac p) formed spellable = (refl, refl, (path_word p formed, tt))
-call_row (call.Setfmac label p) formed spellable = (refl, refl, (any_word label formed.0, (path_word p formed.1, tt)))
-call_row (call.Readdir p) formed spellable = (refl, refl, (path_word p formed, tt))
-call_row (call.Chmod p mode) formed spellable = (refl, refl, (path_word p formed.0, (formed.1, tt)))
-call_row (call.Unlink p) formed spellable = (refl, refl, (path_word p formed, tt))
-call_row (call.OpenFd p read write) formed spellable = (refl, refl, (path_word p formed.0, (open_mode_word read write formed.1, tt)))
-call_row (call.Fread n) formed spellable = (refl, refl, ((lit< tt, omega (arith, formed)), tt))
-call_row (call.Fwrite n text) formed spellable = (refl, refl, ((lit< tt, omega (arith, formed.0)), ((spellable, formed.1.each), tt)))
-call_row (call.Close n) formed spellable = (refl, refl, ((lit< tt, omega (arith, formed)), tt))
-call_row (call.Pipe name) formed spellable = (refl, refl, (name_word name formed, tt))
-call_row (call.Socket name) formed spellable = (refl, refl, (name_word name formed, tt))
-call_row (call.Pread name) formed spellable = (refl, refl, (name_word name formed, tt))
-call_row (call.Pwrite name text) formed spellable = (refl, refl, (name_word name formed.0, ((spellable, formed.1.each), tt)))
-call_row (call.Pstat name) formed spellable = (refl, refl, (name_word name formed, tt))
-call_row (call.Setpipemac label name) formed spellable = (refl, refl, (any_word label formed.0, (name_word name formed.1, tt)))
-call_row (call.Send from to text) formed spellable = (refl, refl, (name_word from formed.0, (name_word to formed.1, ((spellable, formed.2.each), tt))))
-call_row (call.Recv name) formed spellable = (refl, refl, (name_word name formed, tt))
-call_row (call.Seesock name) formed spellable = (refl, refl, (name_word name formed, tt))
-call_row (call.Setsockmac label name) formed spellable = (refl, refl, (any_word label formed.0, (name_word name formed.1, tt)))
-call_row (call.Bind name tcp port) formed spellable = (refl, refl, (name_word name formed.0, (protocol_word tcp, ((lit< tt, formed.1), tt))))
-call_row call.Kldstat formed spellable = (refl, refl, tt)
-call_row (call.Kldload word) formed spellable = (refl, refl, (any_word word formed, tt))
-call_row (call.Kldunload word) formed spellable = (refl, refl, (any_word word formed, tt))
-call_row (call.Sysctl name value) formed spellable = (refl, refl, ((formed.0, formed.1, spellable), tt))
-call_row call.UgidfwList formed spellable = (refl, refl, (refl, tt))
-call_row (call.UgidfwAdd rule) formed spellable = (refl, refl, (refl, formed))
-call_row (call.UgidfwSet n rule) formed spellable = (refl, refl, (refl, ((lit< tt, omega (arith, formed.0)), formed.1)))
-call_row (call.UgidfwRemove n) formed spellable = (refl, refl, (refl, ((lit< tt, omega (arith, formed)), tt)))
+call_row c formed spellable = subst IsRow (sym (row_of c).are) ((opening c).word, (opening c).no_comment, (row_of c).written formed spellable)
 
 -- behind a child's name
-
-call_behind : (c : Call) → IsRow (call_pieces c) → AreOfWords (call_pieces c)
-call_behind (call.Fork child) row = (row.0, row.2)
-call_behind call.Exit row = (row.0, row.2)
-call_behind (call.See process) row = (row.0, row.2)
-call_behind (call.Signal process) row = (row.0, row.2)
-call_behind (call.Debug process) row = (row.0, row.2)
-call_behind (call.Sched process) row = (row.0, row.2)
-call_behind (call.Priv p) row = (row.0, row.2)
-call_behind call.Getpmac row = (row.0, row.2)
-call_behind (call.Setpmac label) row = (row.0, row.2)
-call_behind (call.Exec p) row = (row.0, row.2)
-call_behind (call.Create p) row = (row.0, row.2)
-call_behind (call.Mkdir p) row = (row.0, row.2)
-call_behind (call.Read p) row = (row.0, row.2)
-call_behind (call.Write p text) row = (row.0, row.2)
-call_behind (call.Stat p) row = (row.0, row.2)
-call_behind (call.Getfmac p) row = (row.0, row.2)
-call_behind (call.Setfmac label p) row = (row.0, row.2)
-call_behind (call.Readdir p) row = (row.0, row.2)
-call_behind (call.Chmod p mode) row = (row.0, row.2)
-call_behind (call.Unlink p) row = (row.0, row.2)
-call_behind (call.OpenFd p read write) row = (row.0, row.2)
-call_behind (call.Fread n) row = (row.0, row.2)
-call_behind (call.Fwrite n text) row = (row.0, row.2)
-call_behind (call.Close n) row = (row.0, row.2)
-call_behind (call.Pipe name) row = (row.0, row.2)
-call_behind (call.Socket name) row = (row.0, row.2)
-call_behind (call.Pread name) row = (row.0, row.2)
-call_behind (call.Pwrite name text) row = (row.0, row.2)
-call_behind (call.Pstat name) row = (row.0, row.2)
-call_behind (call.Setpipemac label name) row = (row.0, row.2)
-call_behind (call.Send from to text) row = (row.0, row.2)
-call_behind (call.Recv name) row = (row.0, row.2)
-call_behind (call.Seesock name) row = (row.0, row.2)
-call_behind (call.Setsockmac label name) row = (row.0, row.2)
-call_behind (call.Bind name tcp port) row = (row.0, row.2)
-call_behind call.Kldstat row = (row.0, row.2)
-call_behind (call.Kldload word) row = (row.0, row.2)
-call_behind (call.Kldunload word) row = (row.0, row.2)
-call_behind (call.Sysctl name value) row = (row.0, row.2)
-call_behind call.UgidfwList row = (row.0, row.2)
-call_behind (call.UgidfwAdd rule) row = (row.0, row.2)
-call_behind (call.UgidfwSet n rule) row = (row.0, row.2)
-call_behind (call.UgidfwRemove n) row = (row.0, row.2)
+row_behind : (pieces : Pieces) → IsRow pieces → AreOfWords pieces
+row_behind (Word w ∷ pieces) is = (is.0, is.2)
+row_behind other is = absurd is
 
 child_word : (child : List ℕ) → is_name child ≡ true → is_word (codes "@" ++ child) ≡ true
 child_word child named = (both (is_some_text child) _ (name_word child named)).1
 
 line_row : (line : Line) → IsFormedLine line → IsSpellableCall line.call → IsRow (line_pieces line)
 line_row line formed spellable = by_child line.child formed.child where
-  row : IsRow (call_pieces line.call)
-  row = call_row line.call formed.call spellable
+  own : IsRow (call_pieces line.call)
+  own = call_row line.call formed.call spellable
 
   by_child : (child : Option (List ℕ)) → IfSome child IsName → IsRow (line_pieces (record { child = child; call = line.call }))
-  by_child None named = row
-  by_child (Some child) named = (child_word child named, refl, call_behind line.call row)
+  by_child None named = own
+  by_child (Some child) named = (child_word child named, refl, row_behind (call_pieces line.call) own)
 
 -- Boots, the tunable, files, tasks and steps
 

@@ -36,7 +36,8 @@ use Rattle.mf_script.specs.Readers.{Read, and_then, unless}
 use Rattle.mf_script.specs.Grammar as grammar
 use Rattle.mf_script.specs.Grammar.{Reading, has_path, has_name, with_list, judged_task, boot_in, file_in, task_in, line_in, step_in, behind_tasks, behind_files, behind_tunable, behind_boots, in_task, in_steps, row_in, words_line, blank, ended, script_from, script_of}
 use Rattle.mf_spelling.specs.Spelling.{Pieces, SpellLine, boot_pieces, tunable_pieces, file_pieces, task_pieces, line_pieces, step_pieces, step_word, task_rows, step_rows, SayTunable, SaySteps, front_rows, sayings, SpellScript, IsTextOf, Word}
-use Rattle.mf_spelled.proofs.CallsBack.{none, line_back, no_words}
+use Rattle.mf_spelled.proofs.CallsBack.{line_back, no_words}
+use Rattle.mf_spelled.proofs.Lines.{none}
 use Rattle.mf_spelled.proofs.LinesBack.{boot_back, tunable_back, file_back, file_judged, task_back, step_back, request_judged}
 use Rattle.mf_spelled.proofs.WordsBack.{passes}
 use Rattle.mf_spelled.proofs.Reaching.{Reaches, nowhere, one_row, and_on, each_on, each_row, by_first, read_lines}

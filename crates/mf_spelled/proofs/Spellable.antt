@@ -17,7 +17,7 @@ use Rattle.mf_calls.specs.declared.script.Task.{Task}
 use Rattle.mf_calls.specs.declared.script.Script.{Script}
 use Rattle.mf_spelling.specs.Spelling.{Piece, Word, Decimal, Text, Setting, Pieces, SpellLine, SpellScript, call_pieces, line_pieces, boot_pieces, file_pieces, task_rows, SayTunable, front_rows, says, sayings}
 use Rattle.mf_spelling.specs.Canonical.{IsSpellableCall, IsSpellable}
-use Rattle.mf_spelled.proofs.CallsBack.{IsSingle, front}
+use Rattle.mf_spelled.proofs.Lines.{IsSingle, front}
 use Rattle.mf_spelled.proofs.FileAndTaskLines.{AreSome, some_bytes}
 use Rattle.mf_spelled.proofs.Scripts.{some_words, any_bytes, scripts_spelled}
 use Rattle.mf_words.specs.Words.{lines_in}

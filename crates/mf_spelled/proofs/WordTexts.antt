@@ -3,9 +3,10 @@ use Rattle.std.proofs.Common.{◌≡◌, ℕ, Bool, true, false, not, ◌&&◌, 
 use Rattle.std.proofs.lemmas.Bool.Decides.{nat_tests}
 use Rattle.std.specs.List.{list_all, onto_first}
 use Rattle.std.specs.Char.{is_ascii_graphic}
+use Rattle.std.specs.Str.{byte}
 use Rattle.mf_calls.specs.Names.{is_some_text}
 pub use Rattle.mf_words.proofs.Behind.{behind, both, join, all_append, all_map}
-use Rattle.mf_words.specs.Words.{is_blank, newline, words_in, lines_in, goes_on}
+use Rattle.mf_words.specs.Words.{is_blank, words_in, lines_in, goes_on}
 use Rattle.mf_spelling.specs.Spelling.{is_line_byte}
 
 abbrev pub is_word : List ℕ → Bool
@@ -63,7 +64,7 @@ plain_behind (w ∷ ws) words = all_append is_line_byte w (behind ws) (plain_wor
 pub plain_text : (w : List ℕ) (ws : List (List ℕ)) → is_word w ≡ true → AreWords ws → list_all is_line_byte (w ++ behind ws) ≡ true
 plain_text w ws word words = all_append is_line_byte w (behind ws) (plain_word w word) (plain_behind ws words)
 
-no_newline : (b : ℕ) → is_line_byte b ≡ true → (b == newline) ≡ false
+no_newline : (b : ℕ) → is_line_byte b ≡ true → (b == byte "\n") ≡ false
 no_newline b h = grind (arith, nat_tests)
 
 -- a line in front of others

@@ -14,7 +14,6 @@ use Rattle.mf_elem.specs.declared.label.Request.{Request}
 use Rattle.mf_elem.specs.Label.{no_request}
 use Rattle.mf_text.specs.Number.{number_in}
 use Rattle.mf_text.specs.Escape.{bytes_of}
-use Rattle.mf_labeltext.specs.Bytes.{comma, slash}
 use Rattle.mf_labeltext.specs.Reading.{parts, cut, request_in}
 use Rattle.mf_calls.specs.declared.limits.TheConstants.{UID_MAX, MODE_LIMIT}
 use Rattle.mf_script.specs.declared.error.ScriptFault.TheVariants as fault
@@ -101,11 +100,11 @@ unfolding all_added
 components_added [] names = done (sym (append-nil names))
 components_added (w ∷ ws) names = chain _ _ (one_component names w) (λ more is. widened (components_added ws more) (λ all got. got ∙ ap (λ more. more ++ ws) is ∙ append_assoc names (w ∷ []) ws))
 
-path_parts : (w : List ℕ) → Yields (λ names. w ≡ join_with_byte slash names) (components_of w)
+path_parts : (w : List ℕ) → Yields (λ names. w ≡ join_with_byte (byte "/") names) (components_of w)
 unfolding components_of parts
-path_parts w = widened (components_added (slice_split (λ b. b == slash) w) []) (λ names is. sym (ap (join_with_byte slash) is ∙ join_with_byte-slice_split slash w))
+path_parts w = widened (components_added (slice_split (λ b. b == byte "/") w) []) (λ names is. sym (ap (join_with_byte (byte "/")) is ∙ join_with_byte-slice_split (byte "/") w))
 
-behind_spells : (w : List ℕ) → Yields (λ names. w ≡ join_with_byte slash names) (behind_root w)
+behind_spells : (w : List ℕ) → Yields (λ names. w ≡ join_with_byte (byte "/") names) (behind_root w)
 unfolding behind_root
 behind_spells [] = done refl
 behind_spells (b ∷ w) = path_parts (b ∷ w)
@@ -113,7 +112,7 @@ behind_spells (b ∷ w) = path_parts (b ∷ w)
 pub path_spells : Reads path path_of
 unfolding path_of
 path_spells [] = refused
-path_spells (b ∷ w) = checked _ _ _ (λ e. widened (behind_spells w) (λ names is. ap (λ b. b ∷ w) (eqb-true b slash e) ∙ ap (λ w. slash ∷ w) is))
+path_spells (b ∷ w) = checked _ _ _ (λ e. widened (behind_spells w) (λ names is. ap (λ b. b ∷ w) (eqb-true b (byte "/") e) ∙ ap (λ w. byte "/" ∷ w) is))
 
 -- Groups
 
@@ -143,7 +142,7 @@ groups_added (w ∷ ws) groups = chain _ _ (one_group groups w) (λ next first. 
 
 pub groups_spell : Reads Groups groups_of
 unfolding groups_of
-groups_spell w = widened (groups_added (parts comma w) []) (λ groups are. are.read ∙ ap (map Ok) (sym are.whole))
+groups_spell w = widened (groups_added (parts (byte ",") w) []) (λ groups are. are.read ∙ ap (map Ok) (sym are.whole))
 
 -- Labels and rules
 
