@@ -1,6 +1,6 @@
 -- Whose checks those of a call are: the subject of each is the caller; or none moves anything to its subject, as where a socket delivers, and where a
 -- call changes the policies.
-use Rattle.std.proofs.Common.{◌≡◌, ℕ, ◌==◌, Bool, true, false, cond, not, nat_le, nat_lt, option_map, length, List, [], ◌∷◌, ◌++◌, map, Option, Some, None, Result, Ok, Err, refl, ◌⊎◌, inl, inr}
+use Rattle.std.proofs.Common.{◌≡◌, ℕ, Bool, true, false, cond, nat_le, option_map, List, [], ◌∷◌, ◌++◌, map, Option, Some, None, Result, Ok, Err, refl, ◌⊎◌, inl, inr, arith}
 use Rattle.std.specs.Option.{option_map_or, ok_or}
 use Rattle.std.specs.List.{AllByRecursion}
 use Rattle.mf_text.specs.Results.{and_then}
@@ -9,16 +9,14 @@ use Rattle.mf_errno.specs.declared.errno.Errno.TheVariants as errno
 use Rattle.mf_errno.specs.declared.module.Module.{Module}
 use Rattle.mf_item.specs.declared.operation.CheckOp.TheVariants as op
 use Rattle.mf_item.specs.declared.view.Kind.TheVariants as kinds
-use Rattle.mf_names.specs.declared.limits.TheConstants.{CONTENT_LIMIT, MOST_DESCRIPTORS}
 use Rattle.mf_policy.specs.Loading.{load_errno, load_fault, unload_errno, unload_fault}
 use Rattle.mf_policy.specs.Lowering.{observes}
 use Rattle.mf_policy.specs.Operations.{row_of}
 use Rattle.mf_policy.specs.Settings.{change_in}
 use Rattle.mf_policy.specs.declared.settings.Change.{Change}
 use Rattle.mf_objects.specs.declared.id.Id.{Id}
-use Rattle.mf_objects.specs.declared.limits.TheConstants.{MOST_ENTITIES, MOST_MESSAGES, PIPE_LIMIT}
-use Rattle.mf_objects.specs.Descriptors.{fds_at}
-use Rattle.mf_objects.specs.Live.{content_at, count_at}
+use Rattle.mf_objects.specs.declared.limits.TheConstants.{MOST_MESSAGES}
+use Rattle.mf_objects.specs.Live.{count_at}
 use Rattle.mf_calls.specs.declared.script.Call.{Call}
 use Rattle.mf_calls.specs.declared.script.Call.TheVariants as call
 use Rattle.mf_calls.specs.Tasks.{is_change}
@@ -29,9 +27,9 @@ use Rattle.mf_plan.specs.Path.{lookup_along}
 use Rattle.mf_plan.specs.Plan.{row_for}
 use Rattle.mf_plan.specs.Relabels.{claimed_in}
 use Rattle.mf_plan.specs.Row.{Row, if_there, through}
-use Rattle.mf_plan.specs.Rows.{about_of, opens}
+use Rattle.mf_plan.specs.Rows.{about_of}
 use Rattle.mf_plan.specs.Settings.{unless_success}
-use Rattle.mf_plan.specs.Views.{entity_named, is_dir, overfills}
+use Rattle.mf_plan.specs.Views.{entity_named}
 use Rattle.mf_plan.specs.Ways.{At, Place, Way, asking, carrying, straight, then_way, way_to}
 use Rattle.mf_plan.specs.Ways.Place.{Nothing, Caller, Named, Unused, File, Free, Entry, Opened, Sockets, Listed, Loading, Unloading, Setting, Asking}
 
@@ -75,11 +73,6 @@ none_after P b = unless_refused P b [] tt
 none_by : (P : Check → Type 0) (fault : Option Errno) → AllByRecursion P (option_map_or (λ e. []) fault [])
 none_by P None = tt
 none_by P (Some e) = tt
-
--- a check that is asked where a test says so
-where_asked : (P : Check → Type 0) (b : Bool) (check : Check) (checks : List Check) → P check → AllByRecursion P checks → AllByRecursion P (cond b (check ∷ checks) checks)
-where_asked P true check checks here all = (here, all)
-where_asked P false check checks here all = all
 
 -- The way to what a call is about
 
@@ -132,10 +125,6 @@ module _ (s : State) (me : Id) where
         → AllByRecursion LooksAway (row_for s task c me).checks
     whole_away c first all = all_through LooksAway (way_to s me (about_of s task me c).place) (about_of s task me c).row first all
 
-    -- where one entity more needs room
-    room : AllByRecursion (IsBy me) (cond (nat_le MOST_ENTITIES (length s.objects.live)) [] [])
-    room = none_after (IsBy me) (nat_le MOST_ENTITIES (length s.objects.live))
-
     -- where a policy may refuse a change
     set_away : (asked : Module × Change) → AllByRecursion LooksAway (option_map_or (λ e. []) (unless_success (change_in asked.0 asked.1 s.specs).0.errno) [])
     set_away asked = none_by LooksAway (unless_success (change_in asked.0 asked.1 s.specs).0.errno)
@@ -154,61 +143,13 @@ module _ (s : State) (me : Id) where
 
     -- the checks of each call
     pub row_by : (c : Call) → AreBy me (row_for s task c me).checks
-    row_by (call.Fork child) = whole_by (call.Fork child) (λ free. room)
-    row_by call.Exit = whole_by call.Exit (λ none. tt)
-    row_by (call.See name) = whole_by (call.See name) (λ id. (refl, tt))
-    row_by (call.Signal name) = whole_by (call.Signal name) (λ id. (refl, tt))
-    row_by (call.Debug name) = whole_by (call.Debug name) (λ id. (refl, tt))
-    row_by (call.Sched name) = whole_by (call.Sched name) (λ id. (refl, tt))
-    row_by (call.Priv p) = whole_by (call.Priv p) (λ none. (refl, tt))
-    row_by call.Getpmac = whole_by call.Getpmac (λ id. tt)
-    row_by (call.Setpmac text) = whole_by (call.Setpmac text) (λ asked. (refl, tt))
-    row_by (call.Exec path) =
-        whole_by (call.Exec path) (λ id. unless_refused (IsBy me) (is_dir s.objects id) (on me op.VnodeExec id ∷ []) (refl, tt))
-    row_by (call.Create path) = whole_by (call.Create path) (λ dir. (refl, room))
-    row_by (call.Mkdir path) = whole_by (call.Mkdir path) (λ dir. (refl, room))
-    row_by (call.Read path) =
-        whole_by (call.Read path) (λ id.
-        unless_refused (IsBy me) (is_dir s.objects id) (on me op.VnodeOpenRead id ∷ on me op.VnodeRead id ∷ []) (refl, (refl, tt)))
-    row_by (call.Write path text) =
-        whole_by (call.Write path text) (λ id.
-        let full : Bool = overfills CONTENT_LIMIT s.objects text id in
-        unless_refused (IsBy me) (is_dir s.objects id) (on me op.VnodeOpenWrite id ∷ on me op.VnodeWrite id ∷ cond full [] [])
-        (refl, (refl, none_after (IsBy me) full)))
-    row_by (call.Stat path) = whole_by (call.Stat path) (λ id. (refl, tt))
-    row_by (call.Getfmac path) = whole_by (call.Getfmac path) (λ id. (refl, tt))
-    row_by (call.Setfmac text path) = whole_by (call.Setfmac text path) (λ asked. (refl, tt))
-    row_by (call.Readdir path) =
-        whole_by (call.Readdir path) (λ id. unless_refused (IsBy me) (not (is_dir s.objects id)) (on me op.VnodeReaddir id ∷ []) (refl, tt))
-    row_by (call.Chmod path mode) = whole_by (call.Chmod path mode) (λ id. (refl, tt))
-    row_by (call.Unlink path) = whole_by (call.Unlink path) (λ entry. (refl, (refl, none_after (IsBy me) (nat_lt 0 (count_at s.objects entry.1)))))
-    row_by (call.OpenFd path read write) =
-        whole_by (call.OpenFd path read write) (λ id.
-        let last : List Check = (opens s me read write id).checks in
-        unless_refused (IsBy me) (is_dir s.objects id) (cond read (on me op.VnodeOpenRead id ∷ cond write (on me op.VnodeOpenWrite id ∷ last) last) (cond write (on me op.VnodeOpenWrite id ∷ last) last))
-        (where_asked (IsBy me) read (on me op.VnodeOpenRead id) (cond write (on me op.VnodeOpenWrite id ∷ last) last) refl
-        (where_asked (IsBy me) write (on me op.VnodeOpenWrite id) last refl (none_after (IsBy me) (nat_le MOST_DESCRIPTORS (length (fds_at s.objects me)))))))
-    row_by (call.Fread n) = whole_by (call.Fread n) (λ id. (refl, tt))
-    row_by (call.Fwrite n text) = whole_by (call.Fwrite n text) (λ id. (refl, none_after (IsBy me) (overfills CONTENT_LIMIT s.objects text id)))
-    row_by (call.Close n) = whole_by (call.Close n) (λ id. tt)
-    row_by (call.Pipe name) = whole_by (call.Pipe name) (λ free. room)
-    row_by (call.Socket name) = whole_by (call.Socket name) (λ free. room)
-    row_by (call.Pread name) = whole_by (call.Pread name) (λ id. (refl, none_after (IsBy me) (length (content_at s.objects id) == 0)))
-    row_by (call.Pwrite name text) = whole_by (call.Pwrite name text) (λ id. (refl, none_after (IsBy me) (overfills PIPE_LIMIT s.objects text id)))
-    row_by (call.Pstat name) = whole_by (call.Pstat name) (λ id. (refl, tt))
-    row_by (call.Setpipemac text name) = whole_by (call.Setpipemac text name) (λ asked. (refl, tt))
     row_by (call.Send from to text) =
         inr (whole_away (call.Send from to text) (sockets_away from to)
         (λ ends. (refl, none_after LooksAway (nat_le MOST_MESSAGES (count_at s.objects ends.1)))))
-    row_by (call.Recv name) = whole_by (call.Recv name) (λ id. (refl, none_after (IsBy me) (count_at s.objects id == 0)))
-    row_by (call.Seesock name) = whole_by (call.Seesock name) (λ id. (refl, tt))
-    row_by (call.Setsockmac text name) = whole_by (call.Setsockmac text name) (λ asked. (refl, tt))
-    row_by (call.Bind name tcp port) = whole_by (call.Bind name tcp port) (λ id. (refl, tt))
-    row_by call.Kldstat = whole_by call.Kldstat (λ none. tt)
-    row_by call.UgidfwList = whole_by call.UgidfwList (λ none. tt)
     row_by (call.Kldload name) = inr (change_away (call.Kldload name) refl)
     row_by (call.Kldunload name) = inr (change_away (call.Kldunload name) refl)
     row_by (call.Sysctl name value) = inr (change_away (call.Sysctl name value) refl)
     row_by (call.UgidfwAdd rule) = inr (change_away (call.UgidfwAdd rule) refl)
     row_by (call.UgidfwSet n rule) = inr (change_away (call.UgidfwSet n rule) refl)
     row_by (call.UgidfwRemove n) = inr (change_away (call.UgidfwRemove n) refl)
+    row_by other = whole_by other (λ what. first_of (assumption, grind (arith, unless_refused)))

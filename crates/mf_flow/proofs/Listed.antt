@@ -1,9 +1,9 @@
 -- Rows of live entities, one after another.
-use Rattle.std.proofs.Common.{◌≡◌, ℕ, ◌<◌, ◌≤◌, ◌+◌, zero, suc, Bool, true, false, cond, nat_le, List, [], ◌∷◌, ◌++◌, append_assoc, length, map, take, get_or, slice_get, Option, Some, None, IfSome, IsSome, Result, Ok, Err, refl, ap, sym, ◌∙◌, subst, arith, length-append, ◌⊎◌, inl, inr}
+use Rattle.std.proofs.Common.{◌≡◌, ℕ, ◌<◌, ◌+◌, zero, suc, Bool, true, false, cond, nat_le, List, [], ◌∷◌, ◌++◌, append_assoc, length, map, take, get_or, slice_get, Option, Some, None, IfSome, IsSome, Result, Ok, Err, refl, ap, sym, ◌∙◌, subst, arith, length-append, ◌⊎◌, inl, inr}
 use Rattle.std.specs.Prelude.{find, IfOk}
 use Rattle.std.specs.declared.alloc.AllocError.{AllocError}
 use Rattle.std.specs.List.{AllByRecursion, flat_map}
-use Rattle.std.proofs.lemmas.List.{flat_map_more}
+use Rattle.std.proofs.lemmas.List.{flat_map_more, map_push}
 use Rattle.std.proofs.lemmas.List.Elements.{All-from_recursion}
 use Rattle.std.proofs.lemmas.List.Folds.{flat_map-map}
 use Rattle.std.proofs.lemmas.Bool.Decides.{nat_tests}
@@ -21,6 +21,7 @@ use Rattle.mf_calls.specs.declared.script.Script.{Script}
 use Rattle.mf_core.specs.declared.history.History.{History}
 use Rattle.mf_core.specs.LegalHistory.{run_state_of}
 use Rattle.mf_objects.proofs.Finding.{find_given}
+use Rattle.mf_objects.proofs.Walking.{from_less, next_found, got, there, taken_more}
 use Rattle.mf_flow.specs.declared.following.Flow.{Flow}
 use Rattle.mf_flow.specs.declared.table.Row.{Row}
 use Rattle.mf_flow.specs.Order.{union}
@@ -79,60 +80,6 @@ own_rows slot o rows n rising all first =
 
 from_itself : (n : ℕ) → nat_le n n ≡ true
 from_itself n = grind (arith, nat_tests)
-
-from_less : (n m : ℕ) → n ≤ m → nat_le n m ≡ true
-from_less n m l = grind (arith, nat_tests)
-
-not_from : (n m : ℕ) → m < n → nat_le n m ≡ false
-not_from n m l = grind (arith, nat_tests)
-
--- the first from a number on that is at most the first id
-first_is : (n least next : ℕ) (es : List LiveEntity) → n ≤ least → IsRising least next es → find (is_from n) es ≡ slice_get es 0
-first_is n least next [] l rising = refl
-first_is n least next (x ∷ es) l rising =
-    let test : is_from n x ≡ true = from_less n x.id.0 (omega (arith, rising.0)) in
-    rw test refl
-
-later_id : (es : List LiveEntity) (n least next : ℕ) (d : LiveEntity) → n < length es → IsRising least next es → least ≤ (get_or es n d).id.0
-later_id [] n least next d within rising = absurd (omega arith)
-later_id (x ∷ es) zero least next d within rising = rising.0
-later_id (x ∷ es) (suc n) least next d within rising = omega (arith, rising.0, later_id es n (x.id.0 + 1) next d (omega arith) rising.1)
-
--- behind one entity the next is found
-next_found : (es : List LiveEntity) (n least next : ℕ) (d : LiveEntity) → n < length es → IsRising least next es
-    → find (is_from ((get_or es n d).id.0 + 1)) es ≡ slice_get es (n + 1)
-next_found [] n least next d within rising = absurd (omega arith)
-next_found (x ∷ es) zero least next d within rising =
-    let miss : is_from (x.id.0 + 1) x ≡ false = not_from (x.id.0 + 1) x.id.0 (omega arith) in
-    rw miss (first_is (x.id.0 + 1) (x.id.0 + 1) next es (omega arith) rising.1)
-next_found (x ∷ es) (suc n) least next d within rising =
-    let later : x.id.0 + 1 ≤ (get_or es n d).id.0 = later_id es n (x.id.0 + 1) next d (omega arith) rising.1 in
-    let miss : is_from ((get_or es n d).id.0 + 1) x ≡ false = not_from ((get_or es n d).id.0 + 1) x.id.0 (omega arith) in
-    let place : suc n + 1 ≡ suc (n + 1) = omega arith in
-    rw (miss, place) (next_found es n (x.id.0 + 1) next d (omega arith) rising.1)
-
-got : {A : Type 0} (xs : List A) (n : ℕ) (x d : A) → slice_get xs n ≡ Some x → get_or xs n d ≡ x
-got [] n x d found = cc
-got (y ∷ xs) zero x d found = cc
-got (y ∷ xs) (suc n) x d found = got xs n x d found
-
-there : {A : Type 0} (xs : List A) (n : ℕ) → n < length xs → slice_get xs n ≡ None → ⊥
-there [] n within none = absurd (omega arith)
-there (y ∷ xs) zero within none = cc
-there (y ∷ xs) (suc n) within none = there xs n (omega arith) none
-
-taken_more : {A : Type 0} (xs : List A) (n : ℕ) (x : A) → slice_get xs n ≡ Some x → take (n + 1) xs ≡ take n xs ++ x ∷ []
-taken_more [] n x found = cc
-taken_more (y ∷ xs) zero x found =
-    let same : y ≡ x = cc in
-    rw same refl
-taken_more (y ∷ xs) (suc n) x found =
-    let place : suc n + 1 ≡ suc (n + 1) = omega arith in
-    rw place (ap (λ (ys : List _). y ∷ ys) (taken_more xs n x found))
-
-map_push : {A B : Type 0} (f : A → B) (xs : List A) (x : A) → map f (xs ++ x ∷ []) ≡ map f xs ++ f x ∷ []
-map_push f [] x = refl
-map_push f (y ∷ xs) x = ap (λ (ys : List _). f y ∷ ys) (map_push f xs x)
 
 -- the row of a live entity
 abbrev sources_row : Module → Entities → Sets → LiveEntity → Row

@@ -24,7 +24,7 @@ use Rattle.mf_plan.specs.Effect.{Effect}
 use Rattle.mf_plan.specs.Effect.Effect.{Make, Append, Deliver, Empty, Receive, SetMode, Open, Close, Unlink, Relabel, Load, Unload}
 use Rattle.mf_perform.specs.Effect.{with_objects}
 use Rattle.mf_perform.specs.declared.descriptors.Opening.{Opening}
-use Rattle.mf_perform.specs.Found.{effect_found, fd_by, make_file, where_found}
+use Rattle.mf_perform.specs.Found.{effect_found}
 use Rattle.mf_perform.specs.Suits.{IsFree, Suits}
 
 -- it keeps all of an entity but its label
@@ -174,20 +174,8 @@ module _ (g : LiveEntity → LiveEntity) (keeps : KeepsRest g) where
     still_suits (Unload m) suits = suits
     still_suits other suits = tt
 
-    file_same : (me : Id) (path : List (List ℕ)) (mode : ℕ) (is_dir : Bool) (dir : Option Id) → make_file relabelled_alone me path mode is_dir dir ≡ make_file s me path mode is_dir dir
-    file_same me path mode is_dir None = refl
-    file_same me path mode is_dir (Some dir) = rw (cred_mapped s.objects me, file_mapped s.objects dir) refl
-
-    open_same : (opening : Opening) (me : Id) (read write : Bool) (found : Option Id)
-        → where_found (λ id. Open me (fd_by relabelled_alone me read write opening id)) found ≡ where_found (λ id. Open me (fd_by s me read write opening id)) found
-    open_same opening me read write None = refl
-    open_same opening me read write (Some id) = rw (fds_mapped s.objects me) refl
-
     -- effects look at credentials, attributes and descriptors alone
     pub effect_same : (task : List ℕ) (me : Id) (opening : Opening) (c : Call) (found : Option Id) (asked : Option Request)
         → effect_found relabelled_alone task me opening c found asked ≡ effect_found s task me opening c found asked
-    effect_same task me opening (call.Fork child) found asked = rw (cred_mapped s.objects me) refl
-    effect_same task me opening (call.Create path) found asked = file_same me path _ false found
-    effect_same task me opening (call.Mkdir path) found asked = file_same me path _ true found
-    effect_same task me opening (call.OpenFd path read write) found asked = open_same opening me read write found
-    effect_same task me opening other found asked = refl
+    effect_same task me opening call.Exit found asked = refl
+    effect_same task me opening other found asked = first_of (assumption, simp (cred_mapped s.objects me, file_mapped s.objects, fds_mapped s.objects me))

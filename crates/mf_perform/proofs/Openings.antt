@@ -223,33 +223,38 @@ data HasOpened (s : State) (me : Id) (c : Call) : Fd → Type 0 where
   has_opened : (path : List (List ℕ)) (read write : Bool) (file : Id) → c ≡ call.OpenFd path read write
       → found_at (lookup_along s.objects path).target ≡ Ok file → HasOpened s me c (new_fd s me read write file)
 
--- no call makes what has something open, and a call opens a file for its caller alone
+-- a call opens a file for its caller alone
 abbrev OpensAlone : State → Id → Call → Effect → Type 0
-OpensAlone s me c (Make name what) = fds_of what ≡ []
 OpensAlone s me c (Open at fd) = (me ≡ at) × HasOpened s me c fd
 OpensAlone s me c other = Unit {0}
 
--- The table.
 there_opens : (s : State) (task : List ℕ) (me : Id) (c : Call) (what : At (about_of s task me c).place)
     → (way_to s me (about_of s task me c).place).there ≡ Ok what → OpensAlone s me c ((about_of s task me c).row what).effect
-there_opens s task me (call.Fork child) what there = refl
-there_opens s task me (call.Create path) what there = refl
-there_opens s task me (call.Mkdir path) what there = refl
-there_opens s task me (call.Pipe name) what there = refl
-there_opens s task me (call.Socket name) what there = refl
 there_opens s task me (call.OpenFd path read write) id there = (refl, has_opened path read write id refl there)
 there_opens s task me other what there = tt
 
-row_opens : (s : State) (task : List ℕ) (me : Id) (c : Call) → OpensAlone s me c (row_for s task c me).effect
+-- and what a call makes has nothing open
+abbrev fds_made : Effect → List Fd
+fds_made (Make name what) = fds_of what
+fds_made other = []
+
+none_made : (s : State) (task : List ℕ) (me : Id) (c : Call) (what : At (about_of s task me c).place) → fds_made ((about_of s task me c).row what).effect ≡ []
+none_made s task me call.Exit what = refl
+none_made s task me other what = refl
+
+row_opens : (s : State) (task : List ℕ) (me : Id) (c : Call) → OpensAlone s me c (row_for s task c me).effect × (fds_made (row_for s task c me).effect ≡ [])
 row_opens s task me c = one (way_to s me (about_of s task me c).place).there refl
   where
     checks : List Check
     checks = (way_to s me (about_of s task me c).place).checks
 
+    whole : Result (At (about_of s task me c).place) Errno → Effect
+    whole there = (through (record { checks = checks; there = there }) (about_of s task me c).row).effect
+
     one : (there : Result (At (about_of s task me c).place) Errno) → (way_to s me (about_of s task me c).place).there ≡ there
-        → OpensAlone s me c (through (record { checks = checks; there = there }) (about_of s task me c).row).effect
-    one (Ok what) is = there_opens s task me c what is
-    one (Err e) is = tt
+        → OpensAlone s me c (whole there) × (fds_made (whole there) ≡ [])
+    one (Ok what) is = (there_opens s task me c what is, none_made s task me c what)
+    one (Err e) is = (tt, refl)
 
 -- a call opens a file for the process of that id: it is its caller, the call was done, and the file stands at the path
 pub data IsOpening (s : State) (task : List ℕ) (child : Option (List ℕ)) (c : Call) (id : Id) : Fd → Type 0 where
@@ -271,9 +276,9 @@ module _ (P : Fd → Type 0) (s : State) (task : List ℕ) (child : Option (List
   observed_all : AllByRecursion P (fds_at s1.objects id)
   observed_all = subst (AllByRecursion P) (sym (fds_observed s task child c rooted id)) own
 
-  gives : (me : Id) (e : Effect) → caller_of ≡ Some me → is_ok (call_reply s task child c) ≡ true → OpensAlone s me c e → Gives P id e
-  gives me (Make name what) named done none = none
-  gives me (Open at fd) named done is = λ same. by_opened fd is.1 (is.0 ∙ same)
+  gives : (me : Id) (e : Effect) → caller_of ≡ Some me → is_ok (call_reply s task child c) ≡ true → OpensAlone s me c e × (fds_made e ≡ []) → Gives P id e
+  gives me (Make name what) named done is = is.1
+  gives me (Open at fd) named done is = λ same. by_opened fd is.0.1 (is.0.0 ∙ same)
     where
       by_opened : (fd : Fd) → HasOpened s me c fd → me ≡ id → P fd
       by_opened _ (has_opened path read write file is there) mine =

@@ -222,15 +222,9 @@ module _ (s : State) (me : Id) (population : IsPopulation s.objects) (lives : Is
     -- The table: what suits, by the tests of the row and what holds at the place.
     row_suits : (c : Call) (found : At (about_of s task me c).place) → Holds s.objects me (about_of s task me c).place found → (mine c found).tail ≡ Do
         → Suits s (mine c found).effect
-    row_suits (call.Fork child) free holds done = record { few = has_room done; free = holds }
-    row_suits (call.Pipe name) free holds done = record { few = has_room done; free = holds }
-    row_suits (call.Socket name) free holds done = record { few = has_room done; free = holds }
-    row_suits (call.Create path) dir holds done = record { few = has_room done; free = holds }
-    row_suits (call.Mkdir path) dir holds done = record { few = has_room done; free = holds }
     row_suits (call.Write path text) id holds done =
         let regular = passed (is_dir s.objects id) errno.Eisdir _ done in
         fits_file (length text) s.objects id holds regular.0 (ltb-false 65536 _ (passed (overfills CONTENT_LIMIT s.objects text id) errno.Efbig Do regular.1).0)
-    row_suits (call.Chmod path mode) id holds done = holds
     row_suits (call.Unlink path) entry holds done =
         let empty = (passed (nat_lt 0 (count_at s.objects entry.1)) errno.Enotempty Do done).0 in
         record { vnode = holds.0; not_root = holds.1; empty = omega (arith, vnode_count s.objects entry.1 holds.0, ltb-false 0 _ empty) }
@@ -245,8 +239,6 @@ module _ (s : State) (me : Id) (population : IsPopulation s.objects) (lives : Is
     row_suits (call.Fwrite n text) id holds done =
         fits_file (length text) s.objects id (regular_vnode s.objects id holds.0) (no_directory s.objects id holds.0)
         (ltb-false 65536 _ (passed (overfills CONTENT_LIMIT s.objects text id) errno.Efbig Do done).0)
-    row_suits (call.Close n) id holds done = record { process = lives; is_open = holds.1 }
-    row_suits (call.Pread name) id holds done = holds
     row_suits (call.Pwrite name text) id holds done =
         fits_pipe (length text) s.objects id holds
         (ltb-false 16384 _ (passed (overfills PIPE_LIMIT s.objects text id) errno.Eagain Do done).0)
@@ -261,7 +253,7 @@ module _ (s : State) (me : Id) (population : IsPopulation s.objects) (lives : Is
     row_suits (call.Setsockmac text name) asked holds done = some_live is_socket s.objects asked.1 holds
     row_suits (call.Kldload name) m holds done = no_errno load_errno (load_fault s.booted s.specs s.numbers m) (no_refusal (load_refusal s m) done)
     row_suits (call.Kldunload name) m holds done = no_errno unload_errno (unload_fault s.specs m) (no_refusal (unload_refusal s m) done)
-    row_suits other found holds done = tt
+    row_suits other found holds done = search (has_room, lives)
 
     call_suits : (c : Call) → (row_for s task c me).tail ≡ Do → Suits s (row_for s task c me).effect
     call_suits c done =

@@ -95,30 +95,9 @@ effect_found s task me opening (call.Setpipemac label name) found asked = relabe
 effect_found s task me opening (call.Send from to text) found asked = where_found (λ id. Deliver id text) found
 effect_found s task me opening (call.Recv name) found asked = where_found Receive found
 effect_found s task me opening (call.Setsockmac label name) found asked = relabelling found asked
-effect_found s task me opening (call.See name) found asked = Unchanged
-effect_found s task me opening (call.Signal name) found asked = Unchanged
-effect_found s task me opening (call.Debug name) found asked = Unchanged
-effect_found s task me opening (call.Sched name) found asked = Unchanged
-effect_found s task me opening (call.Priv p) found asked = Unchanged
-effect_found s task me opening call.Getpmac found asked = Unchanged
-effect_found s task me opening (call.Exec path) found asked = Unchanged
-effect_found s task me opening (call.Read path) found asked = Unchanged
-effect_found s task me opening (call.Fread n) found asked = Unchanged
-effect_found s task me opening (call.Stat path) found asked = Unchanged
-effect_found s task me opening (call.Getfmac path) found asked = Unchanged
-effect_found s task me opening (call.Readdir path) found asked = Unchanged
-effect_found s task me opening (call.Pstat name) found asked = Unchanged
-effect_found s task me opening (call.Seesock name) found asked = Unchanged
-effect_found s task me opening (call.Bind name tcp port) found asked = Unchanged
-effect_found s task me opening call.Kldstat found asked = Unchanged
-effect_found s task me opening call.UgidfwList found asked = Unchanged
--- changes of the policies, whose effect `relisting_at` tells
-effect_found s task me opening (call.Kldload name) found asked = Unchanged
-effect_found s task me opening (call.Kldunload name) found asked = Unchanged
-effect_found s task me opening (call.Sysctl name value) found asked = Unchanged
-effect_found s task me opening (call.UgidfwAdd rule) found asked = Unchanged
-effect_found s task me opening (call.UgidfwSet n rule) found asked = Unchanged
-effect_found s task me opening (call.UgidfwRemove n) found asked = Unchanged
+-- No other changes entities: proofs/Handing compares each call's row with this table, so one that is forgotten here is refused. The effect of a
+-- change of the policies tells `relisting_at`.
+effect_found s task me opening other found asked = Unchanged
 
 -- what the call of an entry changes, by all that was found; nothing where nobody was found who makes it
 abbrev pub effect_of : State → List ℕ → Opening → Call → Found → Effect
@@ -162,32 +141,5 @@ payload_found s caller call.Kldstat found = payload.Modules (map loaded s.specs)
 payload_found s caller (call.Kldload name) found = slot s.numbers (module_named name)
 payload_found s caller call.UgidfwList found = option_map_or payload.Rules (listed_rules s.specs) payload.None
 payload_found s caller (call.UgidfwAdd rule) found = rule_added s.specs (Some (modules.Bsdextended, RuleAdd rule))
-payload_found s caller (call.Fork child) found = payload.None
-payload_found s caller call.Exit found = payload.None
-payload_found s caller (call.See name) found = payload.None
-payload_found s caller (call.Signal name) found = payload.None
-payload_found s caller (call.Debug name) found = payload.None
-payload_found s caller (call.Sched name) found = payload.None
-payload_found s caller (call.Priv p) found = payload.None
-payload_found s caller (call.Setpmac label) found = payload.None
-payload_found s caller (call.Exec path) found = payload.None
-payload_found s caller (call.Create path) found = payload.None
-payload_found s caller (call.Mkdir path) found = payload.None
-payload_found s caller (call.Write path text) found = payload.None
-payload_found s caller (call.Setfmac label path) found = payload.None
-payload_found s caller (call.Chmod path mode) found = payload.None
-payload_found s caller (call.Unlink path) found = payload.None
-payload_found s caller (call.Fwrite n text) found = payload.None
-payload_found s caller (call.Close n) found = payload.None
-payload_found s caller (call.Pipe name) found = payload.None
-payload_found s caller (call.Socket name) found = payload.None
-payload_found s caller (call.Pwrite name text) found = payload.None
-payload_found s caller (call.Setpipemac label name) found = payload.None
-payload_found s caller (call.Send from to text) found = payload.None
-payload_found s caller (call.Seesock name) found = payload.None
-payload_found s caller (call.Setsockmac label name) found = payload.None
-payload_found s caller (call.Bind name tcp port) found = payload.None
-payload_found s caller (call.Kldunload name) found = payload.None
-payload_found s caller (call.Sysctl name value) found = payload.None
-payload_found s caller (call.UgidfwSet n rule) found = payload.None
-payload_found s caller (call.UgidfwRemove n) found = payload.None
+-- No other hands back anything; proofs/Handing compares with the rows here too.
+payload_found s caller other found = payload.None

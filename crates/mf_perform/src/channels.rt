@@ -52,7 +52,7 @@ pub(crate) fn make_channel(
 }
 
 /// Takes all bytes out of the pipe.
-pub(crate) fn pread(state: &mut State, pipe: Option<Id>)
+pub(crate) fn empty(state: &mut State, pipe: Option<Id>)
     requires { Suits state.old (where_found Empty pipe) }
     ensures { (me : Id) → state.new ≡ after state.old me (where_found Empty pipe) }
 {
@@ -99,7 +99,7 @@ pub(crate) fn deliver(
 }
 
 /// Takes the oldest message out of the socket.
-pub(crate) fn recv(state: &mut State, socket: Option<Id>)
+pub(crate) fn receive(state: &mut State, socket: Option<Id>)
     requires { Suits state.old (where_found Receive socket) }
     ensures { (me : Id) → state.new ≡ after state.old me (where_found Receive socket) }
 {

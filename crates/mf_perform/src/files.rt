@@ -81,7 +81,7 @@ fn add_file(
 }
 
 /// Gives the file or directory these mode bits.
-pub(crate) fn chmod(state: &mut State, file: Option<Id>, mode: u16)
+pub(crate) fn set_mode(state: &mut State, file: Option<Id>, mode: u16)
     requires { Suits state.old (spec.where_found (λ id. SetMode id mode) file) }
     ensures { (me : Id)
         → state.new ≡ after state.old me (spec.where_found (λ id. SetMode id mode) file) }

@@ -9,9 +9,9 @@ ghost use Rattle.mf_perform.specs.Effect.{after, takes_memory};
 ghost use Rattle.mf_perform.specs.Found.{after_found, effect_found, effect_of};
 ghost use Rattle.mf_perform.specs.Suits.{Suits};
 
-use crate::channels::{Channel, append, deliver, make_channel, pread, recv};
+use crate::channels::{Channel, append, deliver, empty, make_channel, receive};
 use crate::descriptors::{Opening, close, open};
-use crate::files::{chmod, make_file, unlink};
+use crate::files::{make_file, set_mode, unlink};
 use crate::labels::relabel;
 use crate::processes::{exit, fork};
 use mf_calls::{Call, DIRECTORY_MODE, FILE_MODE, Line};
@@ -55,7 +55,8 @@ pub(crate) fn perform(
 }
 
 /// Does the call of a live process of the task, by the target and the request that were found. The
-/// clause says of every call what the table of `effect_found` has.
+/// clause says of every call what `effect_found` has, so one that is new and changes something is
+/// refused here until it has its line. Changes of the policies aren't made here.
 fn perform_by(
     alloc: Global,
     state: &mut State,
@@ -80,31 +81,34 @@ fn perform_by(
 {
     let target = found.target;
     match call {
-        Call::Fork(child) => fork(alloc, state, task, caller, child.as_str()),
-        Call::Exit => Ok(exit(state, caller)),
+        Call::Fork(child) => return fork(alloc, state, task, caller, child.as_str()),
+        Call::Exit => exit(state, caller),
         Call::Setpmac(_) | Call::Setfmac(..) | Call::Setpipemac(..) | Call::Setsockmac(..) => {
-            relabel(state, target, &found.request)
+            return relabel(state, target, &found.request);
         }
-        Call::Create(path) => make_file(alloc, state, caller, target, path, FILE_MODE, false),
-        Call::Mkdir(path) => make_file(alloc, state, caller, target, path, DIRECTORY_MODE, true),
-        Call::Write(_, text) => append(state, target, text.as_slice()),
-        Call::Chmod(_, mode) => Ok(chmod(state, target, *mode)),
-        Call::Unlink(_) => Ok(unlink(state, target)),
-        Call::OpenFd(_, read, write) => Ok(open(state, caller, target, *read, *write, opening)),
-        Call::Fwrite(_, text) => append(state, target, text.as_slice()),
-        Call::Close(number) => Ok(close(state, caller, *number)),
-        Call::Pipe(name) => make_channel(alloc, state, caller, Channel::Pipe, name.as_str()),
-        Call::Socket(name) => make_channel(alloc, state, caller, Channel::Socket, name.as_str()),
-        Call::Pread(_) => Ok(pread(state, target)),
-        Call::Pwrite(_, text) => append(state, target, text.as_slice()),
-        Call::Send(_, _, text) => deliver(alloc, state, target, text.as_slice()),
-        Call::Recv(_) => Ok(recv(state, target)),
-        Call::See(_) | Call::Signal(_) | Call::Debug(_) | Call::Sched(_) | Call::Priv(_) => Ok(()),
-        Call::Getpmac | Call::Exec(_) | Call::Read(_) | Call::Fread(_) | Call::Stat(_) => Ok(()),
-        Call::Getfmac(_) | Call::Readdir(_) | Call::Pstat(_) | Call::Seesock(_) => Ok(()),
-        Call::Bind(..) | Call::Kldstat | Call::UgidfwList => Ok(()),
-        // Changes of the policies aren't made here.
-        Call::Kldload(_) | Call::Kldunload(_) | Call::Sysctl(..) => Ok(()),
-        Call::UgidfwAdd(_) | Call::UgidfwSet(..) | Call::UgidfwRemove(_) => Ok(()),
+        Call::Create(path) => {
+            return make_file(alloc, state, caller, target, path, FILE_MODE, false);
+        }
+        Call::Mkdir(path) => {
+            return make_file(alloc, state, caller, target, path, DIRECTORY_MODE, true);
+        }
+        Call::Write(_, text) | Call::Fwrite(_, text) | Call::Pwrite(_, text) => {
+            return append(state, target, text.as_slice());
+        }
+        Call::Chmod(_, mode) => set_mode(state, target, *mode),
+        Call::Unlink(_) => unlink(state, target),
+        Call::OpenFd(_, read, write) => open(state, caller, target, *read, *write, opening),
+        Call::Close(number) => close(state, caller, *number),
+        Call::Pipe(name) => {
+            return make_channel(alloc, state, caller, Channel::Pipe, name.as_str());
+        }
+        Call::Socket(name) => {
+            return make_channel(alloc, state, caller, Channel::Socket, name.as_str());
+        }
+        Call::Pread(_) => empty(state, target),
+        Call::Send(_, _, text) => return deliver(alloc, state, target, text.as_slice()),
+        Call::Recv(_) => receive(state, target),
+        _ => {}
     }
+    Ok(())
 }

@@ -34,7 +34,7 @@ use Rattle.mf_calls.specs.declared.script.Call.{Call}
 use Rattle.mf_calls.specs.declared.script.Call.TheVariants as call
 use Rattle.mf_calls.specs.Names.{is_component}
 use Rattle.mf_calls.specs.declared.limits.TheConstants.{MODE_LIMIT}
-use Rattle.mf_calls.specs.WellFormed.{IsFormedCall, IsText}
+use Rattle.mf_calls.specs.WellFormed.{IsFormedCall, IsPath, IsText}
 use Rattle.mf_plan.specs.declared.plan.Tail.{Tail}
 use Rattle.mf_plan.specs.declared.plan.Tail.TheVariants.{Do, Refuse}
 use Rattle.mf_plan.specs.declared.state.State.{State}
@@ -45,9 +45,10 @@ use Rattle.mf_plan.specs.Effect.{Effect}
 use Rattle.mf_plan.specs.Effect.Effect.{Unchanged, Make, Append, Deliver, Empty, Receive, SetMode, Open, Close, Unlink, End, Relabel, Load, Unload, Set}
 use Rattle.mf_plan.specs.Plan.{row_for}
 use Rattle.mf_plan.specs.Row.{Row, through}
-use Rattle.mf_plan.specs.Rows.{about_of, new_file}
+use Rattle.mf_plan.specs.Rows.{about_of, makes_file, new_file}
 use Rattle.mf_plan.specs.Settings.{is_tunable, owner_named}
 use Rattle.mf_plan.specs.Ways.{At, way_to}
+use Rattle.mf_plan.specs.Ways.Place.{Free}
 use Rattle.mf_plan.specs.Views.{is_dir, overfills, process_named}
 use Rattle.mf_plan.proofs.LookingUp.{last_entry}
 use Rattle.mf_plan.proofs.Finding.{row_by}
@@ -230,22 +231,23 @@ module _ (s : State) (holds : HoldsBounded s) where
     abbrev is_kept : Bool → Bool
     is_kept tunable = not (nat_eq (cred_at s.objects me).uid 0) || tunable
 
+    -- a file or directory in a directory where its name is free
+    file_made : (path : List (List ℕ)) (mode : ℕ) (is_dir : Bool) (dir : Id) → (way_to s me (Free path)).there ≡ Ok dir → (makes_file s me path mode is_dir dir).tail ≡ Do
+        → IsPath path → mode < 2 ^ 16 → Fits s.objects (makes_file s me path mode is_dir dir).effect
+    file_made path mode is_dir dir there done formed fits = (
+      few_live Do done,
+      file_data s.objects me dir mode is_dir fits holds.objects,
+      λ at entry. last_component s.objects path dir (free_target (lookup_along s.objects path).target dir there) formed.each,
+    )
+
     -- By call: what is found, and the tests that were passed, fit the effect.
     row_fits : (c : Call) (what : At (about_of s task me c).place) → (way_to s me (about_of s task me c).place).there ≡ Ok what → ((about_of s task me c).row what).tail ≡ Do
         → IsFormedCall c → Fits s.objects ((about_of s task me c).row what).effect
     row_fits (call.Fork child) free there done formed = (few_live Do done, process_data s.objects me holds.objects, λ dir entry. cc)
     row_fits (call.Pipe pipe) free there done formed = (few_live Do done, pipe_data me, λ dir entry. cc)
     row_fits (call.Socket socket) free there done formed = (few_live Do done, socket_data me, λ dir entry. cc)
-    row_fits (call.Create path) dir there done formed = (
-      few_live Do done,
-      file_data s.objects me dir FILE_MODE false (omega arith) holds.objects,
-      λ at entry. last_component s.objects path dir (free_target (lookup_along s.objects path).target dir there) formed.each,
-    )
-    row_fits (call.Mkdir path) dir there done formed = (
-      few_live Do done,
-      file_data s.objects me dir DIRECTORY_MODE true (omega arith) holds.objects,
-      λ at entry. last_component s.objects path dir (free_target (lookup_along s.objects path).target dir there) formed.each,
-    )
+    row_fits (call.Create path) dir there done formed = file_made path FILE_MODE false dir there done formed (omega arith)
+    row_fits (call.Mkdir path) dir there done formed = file_made path DIRECTORY_MODE true dir there done formed (omega arith)
     row_fits (call.Write path text) id there done formed =
         let regular = passed (is_dir s.objects id) errno.Eisdir _ done in
         let room = passed (overfills CONTENT_LIMIT s.objects text id) errno.Efbig Do regular.1 in
@@ -256,12 +258,10 @@ module _ (s : State) (holds : HoldsBounded s) where
     row_fits (call.Pwrite pipe text) id there done formed =
         let room = passed (overfills PIPE_LIMIT s.objects text id) errno.Eagain Do done in
         (formed.1, λ e live. room_at PIPE_LIMIT text id e (omega arith) room.0 live)
-    row_fits (call.Chmod path mode) id there done formed = formed.1
     row_fits (call.Unlink path) entry there done formed =
         entry_goes entry.0 entry.1 (last_name path) s.objects.next s.objects.live holds.objects.rising holds.objects.rooted
         (last_entry s.objects path root entry.0 (Some entry.1) (entry_target (lookup_along s.objects path).target entry there))
     row_fits call.Exit none there done formed = process_goes me name s.objects.next s.objects.live holds.objects.rising holds.objects.rooted named
-    row_fits (call.Send from to text) ends there done formed = formed.2
     row_fits (call.Sysctl word value) asked there done formed =
         let change = asked_named s.specs word value in
         change_formed (is_kept (is_tunable s.specs word)) (owner_named word) change asked there (asked_formed s.specs word value)
@@ -271,7 +271,7 @@ module _ (s : State) (holds : HoldsBounded s) where
         change_formed (is_kept false) (Some modules.Bsdextended) (Some (RuleSet n rule)) asked there formed.1
     row_fits (call.UgidfwRemove n) asked there done formed =
         change_formed (is_kept false) (Some modules.Bsdextended) (Some (RuleRemove n)) asked there tt
-    row_fits other what there done formed = tt
+    row_fits other what there done formed = first_of (assumption formed, search tt)
 
     call_fits : (c : Call) → IsFormedCall c → (row_for s task c me).tail ≡ Do → Fits s.objects (row_for s task c me).effect
     call_fits c formed done = one (way_to s me (about_of s task me c).place).there refl done

@@ -1,7 +1,7 @@
 -- A plan has few checks, so that the number of a denied one fits its field.
 use Rattle.std.proofs.Common.{◌≡◌, ℕ, ◌+◌, ◌<◌, ◌≤◌, Bool, true, false, List, [], ◌∷◌, length, map, Option, Some, None, Result, Ok, Err, ap, arith, length-append}
 use Rattle.std.specs.Option.{option_map_or, ok_or}
-use Rattle.std.specs.Prelude.{◌==◌, if◌then◌else◌, nat_le, nat_lt, not}
+use Rattle.std.specs.Prelude.{if◌then◌else◌, nat_le}
 use Rattle.std.proofs.lemmas.List.{length-map}
 use Rattle.mf_errno.specs.declared.errno.Errno.{Errno}
 use Rattle.mf_errno.specs.declared.errno.Errno.TheVariants as errno
@@ -10,18 +10,14 @@ use Rattle.mf_item.specs.Item.{Item}
 use Rattle.mf_item.specs.declared.operation.CheckOp.TheVariants as op
 use Rattle.mf_item.specs.declared.view.Kind.TheVariants as kinds
 use Rattle.mf_policy.specs.Registration as listing
-use Rattle.mf_policy.specs.Settings.{change_in}
-use Rattle.mf_policy.specs.declared.settings.Change.{Change}
-use Rattle.mf_names.specs.declared.limits.TheConstants.{CONTENT_LIMIT, MOST_DESCRIPTORS}
-use Rattle.mf_objects.specs.declared.limits.TheConstants.{MOST_ENTITIES, MOST_MESSAGES, PIPE_LIMIT}
+use Rattle.mf_names.specs.declared.limits.TheConstants.{MOST_DESCRIPTORS}
 use Rattle.mf_objects.specs.declared.id.Id.{Id}
 use Rattle.mf_objects.specs.Descriptors.{fds_at}
-use Rattle.mf_objects.specs.Live.{Entities, content_at, count_at}
+use Rattle.mf_objects.specs.Live.{Entities}
 use Rattle.mf_calls.specs.declared.script.Call.{Call}
 use Rattle.mf_calls.specs.declared.script.Call.TheVariants as call
 use Rattle.mf_calls.specs.WellFormed.{IsFormedCall, IsPath}
 use Rattle.mf_plan.specs.declared.state.State.{State}
-use Rattle.mf_plan.specs.Loading.{load_refusal, unload_refusal}
 use Rattle.mf_plan.specs.Names.{caller_name}
 use Rattle.mf_plan.specs.Path.{entry_of, going_on, lookup_along, lookup_from, nowhere, root}
 use Rattle.mf_plan.specs.declared.outline.Check.{Check}
@@ -31,10 +27,9 @@ use Rattle.mf_plan.specs.Plan.{plan_in, plan_of, row_for, call_row}
 use Rattle.mf_plan.specs.Relabels.{claimed_in}
 use Rattle.mf_plan.specs.Row.{Row, if_there}
 use Rattle.mf_plan.specs.Rows.{about_of}
-use Rattle.mf_plan.specs.Settings.{unless_success}
 use Rattle.mf_plan.specs.Ways.{At, Place, Way, asking, straight, then_way, way_to, carrying}
 use Rattle.mf_plan.specs.Ways.Place.{Asking, Entry, File, Free, Sockets}
-use Rattle.mf_plan.specs.Views.{is_dir, overfills, process_named, entity_named}
+use Rattle.mf_plan.specs.Views.{is_dir, process_named, entity_named}
 use Rattle.mf_plan.proofs.Finding.{asked_in_effect, row_by}
 use Rattle.mf_plan.proofs.LoweredChecks.{plan_long}
 use Rattle.mf_perform.specs.declared.verdict.Denial.{Denial}
@@ -110,38 +105,10 @@ module _ (s : State) (me : Id) where
 
   module _ (task : List ℕ) where
     formed_place : (c : Call) → IsFormedCall c → IsFormedPlace (about_of s task me c).place
-    formed_place (call.Exec path) formed = formed
-    formed_place (call.Create path) formed = formed
-    formed_place (call.Mkdir path) formed = formed
-    formed_place (call.Read path) formed = formed
-    formed_place (call.Write path text) formed = formed.0
-    formed_place (call.Stat path) formed = formed
-    formed_place (call.Getfmac path) formed = formed
-    formed_place (call.Setfmac text path) formed = formed.1
-    formed_place (call.Readdir path) formed = formed
-    formed_place (call.Chmod path mode) formed = formed.0
-    formed_place (call.Unlink path) formed = formed
-    formed_place (call.OpenFd path read write) formed = formed.0
-    formed_place other formed = tt
-
-    abbrev nothing : List Check
-    nothing = []
-
-    few_set : (asked : Module × Change) → length (option_map_or (λ e. []) (unless_success (change_in asked.0 asked.1 s.specs).0.errno) nothing) ≤ 2
-    few_set asked = few_by 2 (unless_success (change_in asked.0 asked.1 s.specs).0.errno) [] (omega arith)
+    formed_place call.Exit formed = tt
+    formed_place other formed = assumption formed
 
     few_row : (c : Call) (what : At (about_of s task me c).place) → length ((about_of s task me c).row what).checks ≤ 2
-    few_row (call.Fork child) free = few_if 2 (nat_le MOST_ENTITIES (length s.objects.live)) [] (omega arith)
-    few_row (call.Pipe name) free = few_if 2 (nat_le MOST_ENTITIES (length s.objects.live)) [] (omega arith)
-    few_row (call.Socket name) free = few_if 2 (nat_le MOST_ENTITIES (length s.objects.live)) [] (omega arith)
-    few_row (call.Exec path) id = few_if 2 (is_dir s.objects id) (on me op.VnodeExec id ∷ []) (omega arith)
-    few_row (call.Create path) dir = omega (arith, few_if 0 (nat_le MOST_ENTITIES (length s.objects.live)) [] (omega arith))
-    few_row (call.Mkdir path) dir = omega (arith, few_if 0 (nat_le MOST_ENTITIES (length s.objects.live)) [] (omega arith))
-    few_row (call.Read path) id = few_if 2 (is_dir s.objects id) (on me op.VnodeOpenRead id ∷ on me op.VnodeRead id ∷ []) (omega arith)
-    few_row (call.Write path text) id =
-        let over : Bool = overfills CONTENT_LIMIT s.objects text id in
-        let rest : List Check = if over then [] else [] in
-        few_if 2 (is_dir s.objects id) (on me op.VnodeOpenWrite id ∷ on me op.VnodeWrite id ∷ rest) (omega (arith, few_if 0 over [] (omega arith)))
     few_row (call.OpenFd path read write) id =
         let full : List Check = if nat_le MOST_DESCRIPTORS (length (fds_at s.objects me)) then [] else [] in
         let writes : List Check = if write then on me op.VnodeOpenWrite id ∷ full else full in
@@ -149,20 +116,7 @@ module _ (s : State) (me : Id) where
         let none : length full ≤ 0 = few_if 0 (nat_le MOST_DESCRIPTORS (length (fds_at s.objects me))) [] (omega arith) in
         let few : length writes ≤ 1 = one_more 0 write (on me op.VnodeOpenWrite id) full none in
         few_if 2 (is_dir s.objects id) reads (one_more 1 read (on me op.VnodeOpenRead id) writes few)
-    few_row (call.Fwrite n text) id = omega (arith, few_if 0 (overfills CONTENT_LIMIT s.objects text id) [] (omega arith))
-    few_row (call.Readdir path) id = few_if 2 (not (is_dir s.objects id)) (on me op.VnodeReaddir id ∷ []) (omega arith)
-    few_row (call.Unlink path) entry = omega (arith, few_if 0 (nat_lt 0 (count_at s.objects entry.1)) [] (omega arith))
-    few_row (call.Pread name) id = omega (arith, few_if 0 (length (content_at s.objects id) == 0) [] (omega arith))
-    few_row (call.Pwrite name text) id = omega (arith, few_if 0 (overfills PIPE_LIMIT s.objects text id) [] (omega arith))
-    few_row (call.Send from to text) ends = omega (arith, few_if 0 (nat_le MOST_MESSAGES (count_at s.objects ends.1)) [] (omega arith))
-    few_row (call.Recv name) id = omega (arith, few_if 0 (count_at s.objects id == 0) [] (omega arith))
-    few_row (call.Kldload name) m = omega (arith, few_by 0 (load_refusal s m) [] (omega arith))
-    few_row (call.Kldunload name) m = few_by 2 (unload_refusal s m) [] (omega arith)
-    few_row (call.Sysctl name value) asked = few_set asked
-    few_row (call.UgidfwAdd rule) asked = few_set asked
-    few_row (call.UgidfwSet n rule) asked = few_set asked
-    few_row (call.UgidfwRemove n) asked = few_set asked
-    few_row other what = omega arith
+    few_row other what = first_of (omega arith, grind arith)
 
     few_for : (c : Call) → IsFormedCall c → length (row_for s task c me).checks ≤ 12
     few_for c formed =

@@ -27,7 +27,7 @@ use Rattle.mf_objects.proofs.Entities.{label_of}
 use Rattle.mf_objects.specs.declared.id.Id.{Id}
 use Rattle.mf_objects.specs.declared.descriptors.Fd.{Fd}
 use Rattle.mf_objects.specs.Descriptors.{fd_in, fds_at, lowest_free}
-use Rattle.mf_objects.specs.Live.{LiveEntity, Entities, content_at, count_at, has_id, is_one_named, is_process, kind_at, label_at, live_at, messages_at}
+use Rattle.mf_objects.specs.Live.{LiveEntity, Entities, content_at, count_at, file_at, has_id, is_one_named, is_process, kind_at, label_at, live_at, messages_at}
 use Rattle.mf_objects.specs.Titles.{names_at}
 use Rattle.mf_objects.proofs.Finding.{found_live}
 use Rattle.mf_calls.specs.declared.script.Call.{Call}
@@ -41,7 +41,7 @@ use Rattle.mf_plan.specs.declared.reply.Payload.TheVariants as payload
 use Rattle.mf_plan.specs.declared.state.State.{State}
 use Rattle.mf_plan.specs.Names.{caller_name}
 use Rattle.mf_plan.specs.Path.{file_at_path}
-use Rattle.mf_plan.specs.Payloads.{head, label, loaded, names}
+use Rattle.mf_plan.specs.Payloads.{head, label, loaded, message, names}
 use Rattle.mf_plan.specs.Plan.{plan_of, row_for, call_row}
 use Rattle.mf_plan.specs.Planned.{Plan}
 use Rattle.mf_plan.specs.Rows.{about_of}
@@ -151,6 +151,15 @@ module _ (s : State) (bounded : IsBoundedState s) where
   size_at : (id : Id) → length (content_at s.objects id) < 2 ^ 32
   size_at id = omega (arith, (content_fits s.objects id bounded.holds.objects).few)
 
+  stat_at : (id : Id) → IsPayload (payload.Stat (file_at s.objects id) (length (content_at s.objects id)))
+  stat_at id = (file_fits s.objects id bounded.holds.objects, size_at id)
+
+  message_at : (id : Id) → IsPayload (message s.objects id)
+  message_at id = head_fits SCRIPT_LIMIT (slice_index_or (messages_at s.objects id) 0 []) (omega arith) (message_fits s.objects id bounded.holds.objects)
+
+  next_fits : (me : Id) → lowest_free (fds_at s.objects me) < 2 ^ 32
+  next_fits me = free_fits (fds_at s.objects me)
+
   loaded_fit : IsPayload (payload.Modules (map loaded s.specs))
   loaded_fit = record {
     few = omega (arith, length-map s.specs loaded, listed_few s.specs bounded.once);
@@ -163,22 +172,13 @@ module _ (s : State) (bounded : IsBoundedState s) where
     payload_row : (c : Call) (what : At (about_of s task me c).place) → (way_to s me (about_of s task me c).place).there ≡ Ok what
         → IsPayload ((about_of s task me c).row what).payload
     payload_row call.Getpmac id there = let same : me ≡ id = cc in subst (λ (x : Id). IsPayload (label s x)) same (caller_label name me named)
-    payload_row (call.Read path) id there = head_at id
-    payload_row (call.OpenFd path read write) id there = free_fits (fds_at s.objects me)
-    payload_row (call.Fread n) id there = head_at id
-    payload_row (call.Stat path) id there = (file_fits s.objects id bounded.holds.objects, size_at id)
     payload_row (call.Getfmac path) id there = file_label path id (ap result_ok there)
     payload_row (call.Readdir path) id there = names_of s.objects id bounded.holds.objects
-    payload_row (call.Pread pipe) id there = head_at id
-    payload_row (call.Pstat pipe) id there = size_at id
-    payload_row (call.Recv socket) id there =
-        head_fits SCRIPT_LIMIT (slice_index_or (messages_at s.objects id) 0 []) (omega arith) (message_fits s.objects id bounded.holds.objects)
-    payload_row call.Kldstat none there = loaded_fit
     payload_row (call.Kldload word) m there = slot_fits (wants_slot m) s.numbers small_given
     payload_row call.UgidfwList listed there = listed_fit (listed_rules s.specs) (rules_fit s.specs bounded.holds.specs)
     payload_row (call.UgidfwAdd rule) asked there =
         numbered_fit (change_in asked.0 asked.1 s.specs).0.number (number_fits asked.0 asked.1 s.specs bounded.holds.specs)
-    payload_row other what there = tt
+    payload_row other what there = first_of (assumption loaded_fit, search head_at, search stat_at, search size_at, search message_at, search next_fits)
 
     payload_for : (c : Call) → IsPayload (row_for s task c me).payload
     payload_for c = one (way_to s me (about_of s task me c).place).there refl
