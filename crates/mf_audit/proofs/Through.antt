@@ -93,6 +93,16 @@ module _ (s : State) (task : List ℕ) (me : Id) where
       subst (λ (t : Result A Errno). Goes s task me (through (record { checks = checks; there = t }) row) old new (Err e)) leads.leads
       (record { walk = leads.walk ∙ ap (λ (cs : List Check). asking_all s.specs me old (map (item_of s.objects) cs)) (sym (append_nil checks)); ends = refl; sound = tt })
 
+  -- the same, where the errno is handed on
+  pub goes_nowhere_by : {A : Type 0} (checks : List Check) (there : Result A Errno) (row : A → Row) (e : Errno) (old new : Walk) (end : Result Done Errno)
+      → Leads s me (record { checks = checks; there = there }) old new (Err e)
+      → IsErrAnd end (λ given. given ≡ e)
+      → Goes s task me (through (record { checks = checks; there = there }) row) old new end
+  goes_nowhere_by checks there row e old new (Ok done) leads err = absurd err
+  goes_nowhere_by checks there row e old new (Err given) leads err =
+      subst (λ (x : Errno). Goes s task me (through (record { checks = checks; there = there }) row) old new (Err x)) (sym err)
+      (goes_nowhere checks there row e old new leads)
+
   -- a row behind a check that is made where the test holds
   pub asked_if : (test : Bool) (check : Check) (row : Row) (old mid new : Walk) (end : Result Done Errno)
       → asked_by row ≡ None
@@ -165,6 +175,11 @@ module _ (s : State) (task : List ℕ) (me : Id) where
   missed c is e old new (Ok done) same leads err = absurd err
   missed c is e old new (Err given) same leads err =
       subst (λ (x : Errno). Goes s task me (row_for s task c me) old new (Err x)) (sym err) (missed_with c is e old new same leads)
+
+  -- a call goes as the one that it is
+  pub by_row : (c is : Call) (old new : Walk) (end : Result Done Errno) → c ≡ is
+      → Goes s task me (row_for s task is me) old new end → Goes s task me (row_for s task c me) old new end
+  by_row c is old new end same goes = subst (λ (c : Call). Goes s task me (row_for s task c me) old new end) (sym same) goes
 
 -- Ways
 

@@ -1,7 +1,12 @@
 //! Calls about processes, and those that make an entity.
-ghost use Rattle.std.specs.Prelude.{◌≡◌, ◌<◌, IsSome};
+ghost use Rattle.std.specs.Prelude.{◌≡◌, ◌<◌, ℕ, List, IsSome};
+ghost use Rattle.mf_item.specs.declared.view.Kind.TheVariants as kinds;
 ghost use Rattle.mf_objects.specs.Live.{live_at};
+ghost use Rattle.mf_plan.specs.Checks.{on};
 ghost use Rattle.mf_plan.specs.Plan.{row_for};
+ghost use Rattle.mf_plan.specs.Row.{ask, does_nothing, through};
+ghost use Rattle.mf_plan.specs.Ways.Place.{Named};
+ghost use Rattle.mf_plan.specs.Ways.{way_to};
 ghost use Rattle.mf_audit.specs.Ends.{Goes};
 ghost use Rattle.mf_audit.specs.Sorts.{sort_of};
 ghost use Rattle.mf_audit.specs.declared.rows.Sort.TheVariants as sorts;
@@ -19,6 +24,7 @@ use mf_calls::Call;
 use mf_cred::{DIRECTORY_MODE, FILE_MODE};
 use mf_errno::Errno;
 use mf_item::{CheckOp, Kind};
+use mf_names::Name;
 use mf_parties::PartyId;
 
 /// Calls that make an entity.
@@ -102,22 +108,28 @@ pub(super) fn on_process<'c>(
         walk.new result }
 {
     match call {
-        Call::See(name) => {
-            let id = named(kernel, Kind::Process, name)?;
-            shown(kernel, walk, me, CheckOp::ProcVisible, id, Shown::Nothing)
-        }
-        Call::Signal(name) => {
-            let id = named(kernel, Kind::Process, name)?;
-            shown(kernel, walk, me, CheckOp::ProcSignal, id, Shown::Nothing)
-        }
-        Call::Debug(name) => {
-            let id = named(kernel, Kind::Process, name)?;
-            shown(kernel, walk, me, CheckOp::ProcDebug, id, Shown::Nothing)
-        }
-        Call::Sched(name) => {
-            let id = named(kernel, Kind::Process, name)?;
-            shown(kernel, walk, me, CheckOp::ProcSched, id, Shown::Nothing)
-        }
+        Call::See(name) => checked(kernel, walk, me, CheckOp::ProcVisible, name),
+        Call::Signal(name) => checked(kernel, walk, me, CheckOp::ProcSignal, name),
+        Call::Debug(name) => checked(kernel, walk, me, CheckOp::ProcDebug, name),
+        Call::Sched(name) => checked(kernel, walk, me, CheckOp::ProcSched, name),
         _ => Err(Errno::Esrch),
     }
+}
+
+/// A check of the process of a name, behind which nothing is shown.
+fn checked<'c>(
+    kernel: &Kernel,
+    walk: &mut Walk,
+    me: PartyId,
+    op: CheckOp,
+    name: &Name,
+) -> Result<Done<'c>, Errno>
+    requires few { walk.old.asked < 50 }
+    requires caller { IsSome (live_at kernel.now.objects me) }
+    ensures { (task : List ℕ) → Goes kernel.now task me
+        (through (way_to kernel.now me (Named kinds.Process name.now))
+        (λ id. ask (on me op id) does_nothing)) walk.old walk.new result }
+{
+    let id = named(kernel, Kind::Process, name)?;
+    shown(kernel, walk, me, op, id, Shown::Nothing)
 }
