@@ -44,14 +44,16 @@ fn tests_transfers(policy: &Biba, revocation: bool) -> bool {
     holds
 }
 
+/// Whether the policy has revocation so, by its spec.
+fn is_set(policy: &Biba, revocation: bool) -> bool {
+    policy.same(&Spec::Biba { revocation })
+}
+
 /// Whether the policy has revocation so, by its spec and by its answers.
 fn has_revocation(policy: &Biba, revocation: bool) -> bool {
-    let (on, off) = (
-        Spec::Biba { revocation: true },
-        Spec::Biba { revocation: false },
-    );
-    let is_so = policy.same(&on) == revocation && policy.same(&off) != revocation;
-    is_so && tests_transfers(policy, revocation)
+    is_set(policy, revocation)
+        && !is_set(policy, !revocation)
+        && tests_transfers(policy, revocation)
 }
 
 /// Revocation is off at first, is turned on, and is put back.

@@ -53,6 +53,14 @@ fn answer_of<P: Policy>(policy: &P, op: CheckOp) -> Errno {
     answer(policy, op, Elem::Low, Elem::Low)
 }
 
+/// Whether the policy takes the rule of these letters.
+fn adds<P: Policy>(alloc: Global, policy: &mut P, letters: &str) -> bool {
+    match rule(letters) {
+        Some(rule) => is_answered(alloc, policy, &Change::RuleAdd(rule), Success),
+        None => false,
+    }
+}
+
 /// Whether the policy answers so to the operation after a rule more.
 fn answers_with<P: Policy>(
     alloc: Global,
@@ -61,13 +69,7 @@ fn answers_with<P: Policy>(
     op: CheckOp,
     errno: Errno,
 ) -> bool {
-    match rule(letters) {
-        Some(rule) => {
-            let is_added = is_answered(alloc, policy, &Change::RuleAdd(rule), Success);
-            is_added && answer_of(policy, op) == errno
-        }
-        None => false,
-    }
+    adds(alloc, policy, letters) && answer_of(policy, op) == errno
 }
 
 /// Whether it answers so to each operation by the one rule: it is put back each time.

@@ -1,13 +1,13 @@
 //! Cases of lists: what is done with them, what they answer together, and what they answer where their settings are changed.
 ghost use Rattle.std.specs.Prelude.{◌++◌};
+ghost use Rattle.mf_policy.specs.IsChange.{IsChange};
 ghost use Rattle.mf_list.specs.Once.{IsHeldOnce};
 
 use crate::lists::{Act, Policies, all_five, are_listed, comes_of_all};
-use crate::one_of::OneOf;
 use crate::questions::{Question, answer_to};
 use crate::settings::{Asked, change_of};
 use mf_errno::{Errno, Module};
-use mf_policy::Registration;
+use mf_policy::{Change, Changed, Policy, Registration};
 use std::alloc::{AllocError, Global};
 use std::sync::atomic::AtomicU64;
 
@@ -33,14 +33,14 @@ pub struct Case {
 }
 
 /// Whether that is answered.
-fn is_answered(policies: &Policies<OneOf<'_>>, asking: &Asking) -> bool {
+fn is_answered<P: Policy>(policies: &Policies<P>, asking: &Asking) -> bool {
     let (question, errno, by) = asking;
     let answer = answer_to(&policies.walk(), question);
     answer.errno == *errno && answer.by == *by
 }
 
 /// Whether each is answered so.
-fn are_answered(policies: &Policies<OneOf<'_>>, askings: &[Asking]) -> bool {
+fn are_answered<P: Policy>(policies: &Policies<P>, askings: &[Asking]) -> bool {
     let mut holds = true;
     for asking in askings {
         holds &= is_answered(policies, asking);
@@ -48,25 +48,45 @@ fn are_answered(policies: &Policies<OneOf<'_>>, askings: &[Asking]) -> bool {
     holds
 }
 
-/// Whether that comes of the change.
-fn is_set(
+/// Makes the change in the list of the setting.
+fn make<P: Policy>(
     alloc: Global,
-    policies: &mut Policies<OneOf<'_>>,
+    policies: &mut Policies<P>,
+    setting: &Setting,
+    change: &Change,
+) -> Result<Changed, AllocError>
+    requires { IsChange change.now }
+{
+    if setting.fixed {
+        policies.fixed.set(alloc, setting.module, change)
+    } else {
+        policies.list.change(alloc, setting.module, change)
+    }
+}
+
+/// The answer to the change of the setting.
+fn changed<P: Policy>(
+    alloc: Global,
+    policies: &mut Policies<P>,
+    setting: &Setting,
+) -> Result<Changed, AllocError> {
+    make(alloc, policies, setting, &change_of(&setting.asked))
+}
+
+/// Whether that comes of the change.
+fn is_set<P: Policy>(
+    alloc: Global,
+    policies: &mut Policies<P>,
     setting: &Setting,
 ) -> Result<bool, AllocError> {
-    let change = change_of(&setting.asked);
-    let changed = if setting.fixed {
-        policies.fixed.set(alloc, setting.module, &change)?
-    } else {
-        policies.list.change(alloc, setting.module, &change)?
-    };
-    Ok(changed.errno == setting.errno && is_answered(policies, &setting.then))
+    let answer = changed(alloc, policies, setting)?;
+    Ok(answer.errno == setting.errno && is_answered(policies, &setting.then))
 }
 
 /// Whether that comes of each change.
-fn are_set(
+fn are_set<P: Policy>(
     alloc: Global,
-    policies: &mut Policies<OneOf<'_>>,
+    policies: &mut Policies<P>,
     settings: &[Setting],
 ) -> Result<bool, AllocError> {
     for setting in settings {
@@ -78,9 +98,9 @@ fn are_set(
 }
 
 /// Whether all comes out as the case says.
-fn comes_out_in(
+fn comes_out_in<P: Policy>(
     alloc: Global,
-    policies: &mut Policies<OneOf<'_>>,
+    policies: &mut Policies<P>,
     resets: &AtomicU64,
     case: &Case,
 ) -> Result<bool, AllocError>

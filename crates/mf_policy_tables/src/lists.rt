@@ -1,5 +1,5 @@
 //! The lists of policies and the catalogue, and what is done with them.
-ghost use Rattle.std.specs.Prelude.{◌≡◌, ◌++◌, All, IfOk, IsTrue, map};
+ghost use Rattle.std.specs.Prelude.{◌≡◌, [], ◌++◌, All, IfOk, IsTrue, map};
 ghost use Rattle.mf_policy.specs.Modules.{module_of};
 ghost use Rattle.mf_list.specs.Fresh.{IsFresh};
 ghost use Rattle.mf_list.specs.Once.{IsHeldOnce, are_distinct};
@@ -14,6 +14,16 @@ use mf_ports::{Portacl, Seeotheruids};
 use mf_slots::SlotNumbers;
 use std::alloc::{AllocError, Global};
 use std::sync::atomic::{AtomicU64, Ordering};
+
+/// The two lists, with nothing.
+fn no_lists<P: Policy>(alloc: Global) -> Result<(Fixed<P>, PolicyList<P>), AllocError>
+    ensures fixed { IfOk result (λ lists. lists.0 ≡ []) }
+    ensures list { IfOk result (λ lists. lists.1 ≡ []) }
+{
+    let fixed = Fixed::new(alloc)?;
+    let list = PolicyList::new(alloc)?;
+    Ok((fixed, list))
+}
 
 /// The lists, the catalogue, and the slot numbers that are left.
 #[derive(Drop)]
@@ -32,10 +42,12 @@ impl<P: Policy> Policies<P> {
         requires fresh { All (λ p. IsFresh (P.spec p)) modules.items }
         ensures { IfOk result (λ policies. IsHeldOnce (policies.fixed ++ policies.list) policies.catalogue) }
     {
+        let catalogue = Catalogue::new(modules)?;
+        let (fixed, list) = no_lists(alloc)?;
         Ok(Policies {
-            fixed: Fixed::new(alloc)?,
-            list: PolicyList::new(alloc)?,
-            catalogue: Catalogue::new(modules)?,
+            fixed,
+            list,
+            catalogue,
             numbers: SlotNumbers::new(),
         })
     }

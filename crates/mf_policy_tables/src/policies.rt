@@ -3,7 +3,7 @@
 ghost use Rattle.mf_policy.specs.IsChange.{IsChange};
 
 use crate::asked::Level::{self, Equal, Grade, Low};
-use crate::asked::{element, grade, wants};
+use crate::asked::{element, grade, holds, wants};
 use mf_elem::{Elem, RangeLabel, Request};
 use mf_errno::{Errno, Module};
 use mf_item::{CheckOp, Kind};
@@ -140,9 +140,11 @@ fn refusals_of_relabels(rt: HostRuntime) {
     wants(&rt, "an object", relabels_of_an_object());
 }
 
-/// Each module, with the answers to a change of mac_bsdextended's setting and of mac_biba's, and whether it tests transfers
+/// A module, with the answers to a change of mac_bsdextended's setting and of mac_biba's, and whether it tests transfers
 /// after that; at first all do but mac_biba.
-const SETTINGS: &[(Module, Errno, Errno, bool)] = &[
+type Setting = (Module, Errno, Errno, bool);
+
+const SETTINGS: &[Setting] = &[
     (Module::Biba, Errno::Enoent, Errno::Success, true),
     (Module::Mls, Errno::Enoent, Errno::Enoent, true),
     (Module::Lomac, Errno::Enoent, Errno::Enoent, true),
@@ -169,23 +171,26 @@ fn is_set(alloc: Global, spec: &mut Spec, errnos: (Errno, Errno), tests: (bool, 
     is_so && is_first && is_second && spec.tests_transfers() == tests.1
 }
 
-/// The same of a fresh spec; that of MLS stays as it is.
-fn is_set_anew(alloc: Global, module: Module, errnos: (Errno, Errno), after: bool) -> bool {
-    match Spec::fresh(alloc, module) {
-        Ok(mut spec) => {
-            let is_set = is_set(alloc, &mut spec, errnos, (module != Module::Biba, after));
-            is_set && spec.same(&Spec::Mls) == (module == Module::Mls)
-        }
-        Err(AllocError) => false,
-    }
+/// Whether the spec is that of MLS, which has no settings.
+fn is_mls(spec: &Spec) -> bool {
+    spec.same(&Spec::Mls)
+}
+
+/// The same of the module's initial spec; that of MLS stays as it is.
+fn is_set_anew(alloc: Global, setting: &Setting) -> Result<bool, AllocError> {
+    let (module, first_match, revocation, after) = *setting;
+    let mut spec = Spec::fresh(alloc, module)?;
+    let tests = (module != Module::Biba, after);
+    let is_set = is_set(alloc, &mut spec, (first_match, revocation), tests);
+    Ok(is_set && is_mls(&spec) == (module == Module::Mls))
 }
 
 fn settings_of_modules(alloc: Global) -> bool {
-    let mut holds = true;
-    for (module, first_match, revocation, after) in SETTINGS {
-        holds &= is_set_anew(alloc, *module, (*first_match, *revocation), *after);
+    let mut is_so = true;
+    for setting in SETTINGS {
+        is_so &= holds(is_set_anew(alloc, setting));
     }
-    holds
+    is_so
 }
 
 /// The registration of Biba, at boot and first.

@@ -2,7 +2,8 @@
 ghost use Rattle.mf_policy.specs.IsChange.{IsChange};
 
 use crate::asked::{holds, is_answered, object, wants};
-use crate::settings::{Acl, Asked, See, acl, change_of, see};
+use crate::settings::Asked::{Ports, Sights};
+use crate::settings::{Acl, Asked, See, change_of, has};
 use mf_cred::{ArrayVec, Cred};
 use mf_elem::{LabelValue, SLOTS};
 use mf_errno::Errno::{self, Enoent, Eperm, Esrch, Success};
@@ -49,8 +50,10 @@ fn cred_of(user: User) -> Cred {
     }
 }
 
-/// Settings, a user, another process, and whether the user sees it, by what mac_seeotheruids(4) says of the settings.
-const SIGHTS: &[(&str, See, User, (u32, u32), Errno)] = &[
+/// A name, settings, a user, another process, and whether the user sees it, by what mac_seeotheruids(4) says of the settings.
+type Sight = (&'static str, See, User, (u32, u32), Errno);
+
+const SIGHTS: &[Sight] = &[
     ("its own", SEE, [1, 1, 9, 5], (1, 7), Success),
     ("another's", SEE, [1, 1, 9, 5], (2, 9), Esrch),
     ("by real uid", SEE, [2, 1, 9, 5], (1, 7), Success),
@@ -79,32 +82,33 @@ const SPECIFIC: See = (false, true, 5, true);
 /// They would, but for the switch.
 const OFF: See = (false, false, 5, true);
 
+/// Whether the policy takes these settings.
+fn takes<P: Policy>(alloc: Global, policy: &mut P, asked: &Asked) -> bool {
+    is_answered(alloc, policy, &change_of(asked), Success)
+}
+
 /// Whether the user sees the process so with these settings.
-fn is_seen(
-    alloc: Global,
-    policy: &mut Seeotheruids,
-    settings: See,
-    user: User,
-    process: (u32, u32),
-    errno: Errno,
-) -> bool {
-    let is_set = is_answered(alloc, policy, &Change::See(see(settings)), Success);
+fn is_seen(alloc: Global, policy: &mut Seeotheruids, sight: &Sight) -> bool {
+    let (_name, settings, user, process, errno) = *sight;
+    let is_set = takes(alloc, policy, &Sights(settings));
     is_set && answer(policy, CheckOp::ProcVisible, user, process, None) == errno
 }
 
 /// The name of the first row that isn't so, or none. Each row's settings take the place of those of the row before.
 fn wrong_sight(alloc: Global, policy: &mut Seeotheruids) -> &'static str {
-    for (name, settings, user, process, errno) in SIGHTS {
-        if !is_seen(alloc, policy, *settings, *user, *process, *errno) {
-            return name;
+    for sight in SIGHTS {
+        if !is_seen(alloc, policy, sight) {
+            return sight.0;
         }
     }
     ""
 }
 
-/// Settings, a user, a port of TCP or else of UDP, and whether the user may bind a socket to it, by what mac_portacl(4) says of
+/// A name, settings, a user, a port of TCP or else of UDP, and whether the user may bind a socket to it, by what mac_portacl(4) says of
 /// the settings.
-const BINDINGS: &[(&str, Acl, User, (bool, u16), Errno)] = &[
+type Binding = (&'static str, Acl, User, (bool, u16), Errno);
+
+const BINDINGS: &[Binding] = &[
     ("the last", ACL, [1, 1, 9, 5], (true, 1023), Eperm),
     ("above it", ACL, [1, 1, 9, 5], (true, 1024), Success),
     ("any", ACL, [1, 1, 9, 5], (false, 0), Success),
@@ -143,23 +147,17 @@ const RULES: Acl = (
 const DOMAIN: Acl = ("gid:53:udp:53", 1023, true, true);
 
 /// Whether the user may bind a socket to the port so with these settings.
-fn is_bound(
-    alloc: Global,
-    policy: &mut Portacl,
-    settings: Acl,
-    user: User,
-    port: (bool, u16),
-    errno: Errno,
-) -> bool {
-    let is_set = is_answered(alloc, policy, &Change::Port(acl(settings)), Success);
+fn is_bound(alloc: Global, policy: &mut Portacl, binding: &Binding) -> bool {
+    let (_name, settings, user, port, errno) = *binding;
+    let is_set = takes(alloc, policy, &Ports(settings));
     is_set && answer(policy, CheckOp::SocketBind, user, (2, 7), Some(port)) == errno
 }
 
 /// The name of the first row that isn't so, or none. Each row's settings take the place of those of the row before.
 fn wrong_binding(alloc: Global, policy: &mut Portacl) -> &'static str {
-    for (name, settings, user, port, errno) in BINDINGS {
-        if !is_bound(alloc, policy, *settings, *user, *port, *errno) {
-            return name;
+    for binding in BINDINGS {
+        if !is_bound(alloc, policy, binding) {
+            return binding.0;
         }
     }
     ""
@@ -191,42 +189,31 @@ fn operations_that_are_tested(see: &Seeotheruids, acl: &Portacl) -> bool {
     holds
 }
 
-/// Whether the policy has the one spec once it is asked for, and the other one once it is put back.
-fn is_put_back<P: Policy>(
-    alloc: Global,
-    policy: &mut P,
-    asked: &Asked,
-    set: &Spec,
-    initial: &Spec,
-) -> bool {
-    let is_answered = is_answered(alloc, policy, &change_of(asked), Success);
-    let is_set = policy.same(set) && !policy.same(initial);
+/// Whether the policy has the settings once they are asked for, and the initial ones once it is put back.
+fn is_put_back<P: Policy>(alloc: Global, policy: &mut P, asked: &Asked, initial: &Asked) -> bool {
+    let is_taken = takes(alloc, policy, asked);
+    let is_set = has(policy, asked) && !has(policy, initial);
     policy.reset();
-    is_answered && is_set && policy.same(initial)
+    is_taken && is_set && has(policy, initial)
 }
 
-/// What is asked for before the policies are put back.
-const SIGHTS_OF_MEMBERS: &Asked = &Asked::Sights(SPECIFIC);
-
-const RULES_OF_PORTS: &Asked = &Asked::Ports(RULES);
-
-fn settings_are_put_back(alloc: Global) -> bool {
-    let policy = &mut Seeotheruids::new();
-    is_put_back(alloc, policy, SIGHTS_OF_MEMBERS, &see(SPECIFIC), &see(SEE))
+/// Whether both policies are put back so.
+fn are_put_back(alloc: Global, see: &mut Seeotheruids, acl: &mut Portacl) -> bool {
+    is_put_back(alloc, see, &Sights(SPECIFIC), &Sights(SEE))
+        && is_put_back(alloc, acl, &Ports(RULES), &Ports(ACL))
 }
 
-fn rules_are_put_back(alloc: Global) -> bool {
-    let policy = &mut Portacl::new();
-    is_put_back(alloc, policy, RULES_OF_PORTS, &acl(RULES), &acl(ACL))
-}
-
-/// Modules, each with the answers of mac_seeotheruids and of mac_portacl to a change that holds its spec: as settings of
-/// mac_seeotheruids, and then as settings of mac_portacl.
-const CHANGES: &[(Module, (Errno, Errno), (Errno, Errno))] = &[
-    (Module::Seeotheruids, (Success, Enoent), (Enoent, Enoent)),
-    (Module::Portacl, (Enoent, Enoent), (Enoent, Success)),
-    (Module::Biba, (Enoent, Enoent), (Enoent, Enoent)),
-    (Module::Bsdextended, (Enoent, Enoent), (Enoent, Enoent)),
+/// Modules, whose specs come as settings of mac_portacl or else of mac_seeotheruids, with the answers of mac_seeotheruids and of
+/// mac_portacl.
+const CHANGES: &[(Module, bool, (Errno, Errno))] = &[
+    (Module::Seeotheruids, false, (Success, Enoent)),
+    (Module::Seeotheruids, true, (Enoent, Enoent)),
+    (Module::Portacl, false, (Enoent, Enoent)),
+    (Module::Portacl, true, (Enoent, Success)),
+    (Module::Biba, false, (Enoent, Enoent)),
+    (Module::Biba, true, (Enoent, Enoent)),
+    (Module::Bsdextended, false, (Enoent, Enoent)),
+    (Module::Bsdextended, true, (Enoent, Enoent)),
 ];
 
 /// Whether both policies answer the change so.
@@ -237,22 +224,32 @@ fn both_answer(alloc: Global, change: &Change, wanted: (Errno, Errno)) -> bool
     is_answered(alloc, see, change, wanted.0) && is_answered(alloc, acl, change, wanted.1)
 }
 
-/// Whether they answer so to the module's spec, as settings of the one and of the other.
+/// The change to the spec, as settings of mac_portacl or else of mac_seeotheruids.
+fn change_to(spec: Spec, is_port: bool) -> Change
+    ensures { IsChange result }
+{
+    if is_port {
+        Change::Port(spec)
+    } else {
+        Change::See(spec)
+    }
+}
+
+/// Whether they answer so to the module's spec.
 fn answer_to_module(
     alloc: Global,
     module: Module,
-    as_see: (Errno, Errno),
-    as_port: (Errno, Errno),
+    is_port: bool,
+    wanted: (Errno, Errno),
 ) -> Result<bool, AllocError> {
-    let is_see = both_answer(alloc, &Change::See(Spec::fresh(alloc, module)?), as_see);
-    let is_port = both_answer(alloc, &Change::Port(Spec::fresh(alloc, module)?), as_port);
-    Ok(is_see && is_port)
+    let spec = Spec::fresh(alloc, module)?;
+    Ok(both_answer(alloc, &change_to(spec, is_port), wanted))
 }
 
 fn settings_of_another_module(alloc: Global) -> bool {
     let mut is_so = true;
-    for (module, see, port) in CHANGES {
-        is_so &= holds(answer_to_module(alloc, *module, *see, *port));
+    for (module, is_port, wanted) in CHANGES {
+        is_so &= holds(answer_to_module(alloc, *module, *is_port, *wanted));
     }
     is_so
 }
@@ -266,8 +263,8 @@ fn sights_and_ports(rt: HostRuntime) {
     wants(&rt, binding, binding.is_empty());
     let are_tested = operations_that_are_tested(&Seeotheruids::new(), &Portacl::new());
     wants(&rt, "operations", are_tested);
-    let are_put_back = settings_are_put_back(alloc) && rules_are_put_back(alloc);
-    wants(&rt, "put back", are_put_back);
+    let both = are_put_back(alloc, &mut Seeotheruids::new(), &mut Portacl::new());
+    wants(&rt, "put back", both);
     let is_other = settings_of_another_module(alloc);
     wants(&rt, "another module", is_other);
 }

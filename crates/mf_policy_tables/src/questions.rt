@@ -1,11 +1,11 @@
 //! What the listed policies are asked together.
 
 use crate::asked::{object, subject};
-use crate::one_of::OneOf;
 use mf_elem::{LabelValue, SLOTS};
 use mf_errno::Priv;
 use mf_item::{CheckOp, Item, Kind, ObjectView, SubjectView};
 use mf_list::{Answer, Listed};
+use mf_policy::Policy;
 
 /// The values of a label.
 pub type Values = [LabelValue; SLOTS];
@@ -37,8 +37,8 @@ fn user(uid: u32, label: &Values) -> SubjectView {
 }
 
 /// The answer to a user who does so to an object, or binds it to a port.
-fn ask<'v>(
-    list: &Listed<'_, OneOf<'_>>,
+fn ask<'v, P: Policy>(
+    list: &Listed<'_, P>,
     op: CheckOp,
     user: &'v SubjectView,
     object: &'v ObjectView,
@@ -48,7 +48,7 @@ fn ask<'v>(
 }
 
 /// The answer to a user who asks for a privilege.
-fn ask_privilege(list: &Listed<'_, OneOf<'_>>, user: &SubjectView) -> Answer {
+fn ask_privilege<P: Policy>(list: &Listed<'_, P>, user: &SubjectView) -> Answer {
     let privilege = Some(Priv::SchedRtprio);
     list.ask(&Item::new(CheckOp::Priv, user, None, None, privilege, None))
 }
@@ -61,7 +61,7 @@ fn process(uid: u32, partition: u32) -> ObjectView {
 }
 
 /// The answer to a question.
-pub fn answer_to(list: &Listed<'_, OneOf<'_>>, question: &Question) -> Answer {
+pub fn answer_to<P: Policy>(list: &Listed<'_, P>, question: &Question) -> Answer {
     match question {
         Question::About(op, kind, label, of_object) => {
             let (user, object) = (user(0, label), object(*kind, **of_object));

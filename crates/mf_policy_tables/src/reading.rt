@@ -5,7 +5,7 @@ ghost use Rattle.mf_objects.specs.Lives.{IsLive};
 
 use mf_cred::Cred;
 use mf_elem::LabelValue;
-use mf_item::Kind;
+use mf_item::{Kind, ObjectView};
 use mf_names::MOST_DESCRIPTORS;
 use mf_objects::{Fd, Id, Objects};
 use std::alloc::{AllocError, Global};
@@ -59,6 +59,27 @@ fn is_the_same(objects: &Objects, id: Id) -> bool
     has_label && is_known && objects.has_cred(id, &cred)
 }
 
+/// Whether policies see the entity with what is read of it, and not as an entity of another kind.
+fn has_its_view(objects: &Objects, id: Id) -> bool
+    requires { IsSome (live_at objects.now id) }
+{
+    let view = ObjectView {
+        id: id.number(),
+        kind: objects.kind(id),
+        file: objects.file(id),
+        label: objects.label(id),
+    };
+    let other = ObjectView {
+        kind: if view.kind == Kind::Pipe {
+            Kind::Socket
+        } else {
+            Kind::Pipe
+        },
+        ..view
+    };
+    objects.has_view(id, &view) && !objects.has_view(id, &other)
+}
+
 /// A letter for the kind of an entity.
 fn letter(kind: Kind) -> &'static str {
     match kind {
@@ -110,7 +131,7 @@ fn write_entity(objects: &Objects, id: Id, out: &mut String) -> Result<(), Alloc
     objects.title(id, out)?;
     write_kind(objects, id, out)?;
     write_numbers(&numbers_of(objects, id), out)?;
-    if is_the_same(objects, id) {
+    if is_the_same(objects, id) && has_its_view(objects, id) {
         write_numbers(&label_of(objects, id), out)?;
     }
     out.push_str("\n")

@@ -6,7 +6,7 @@ use crate::lists::Act::{Register, Resets, Unregister};
 use mf_errno::{Errno, Module};
 use mf_list::{RegisterFault, UnregisterFault};
 use mf_policy::Registration;
-use std::alloc::AllocError;
+use std::alloc::{AllocError, Global};
 
 /// Biba, booted as the first.
 pub const BIBA: Registration = Registration {
@@ -89,7 +89,7 @@ const WALK_ORDER: Case = Case {
 };
 
 /// Biba is booted, and mac_partition comes late and goes.
-const COME_AND_GO: Case = Case {
+const COME_AND_GO: &Case = &Case {
     acts: &[
         Register("mac_biba", false, Ok(BIBA)),
         Register("mac_partition", true, Ok(PARTITION_1)),
@@ -170,13 +170,18 @@ fn which_are_registered_and_which_go(rt: HostRuntime) {
     wants(&rt, "its errno", errno == Errno::Eexist);
 }
 
+/// Whether that comes out, or does once it is done once more where memory was refused.
+fn comes_out_in_the_end(alloc: Global, case: &Case) -> Result<bool, AllocError> {
+    match comes_out(alloc, case) {
+        Ok(is_so) => Ok(is_so),
+        Err(AllocError) => comes_out(alloc, case),
+    }
+}
+
 /// The lists and the catalogue are made; where that is refused, it is done once more. No call after that takes memory.
 #[test]
 fn policies_after_refused_growths(rt: HostRuntime) -> Result<(), AllocError> {
-    let is_so = match comes_out(rt.alloc(), &COME_AND_GO) {
-        Ok(is_so) => is_so,
-        Err(AllocError) => comes_out(rt.alloc(), &COME_AND_GO)?,
-    };
+    let is_so = comes_out_in_the_end(rt.alloc(), COME_AND_GO)?;
     wants(&rt, "mac_partition", is_so);
     Ok(())
 }

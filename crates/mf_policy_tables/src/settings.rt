@@ -1,8 +1,7 @@
 //! Settings of modules, as rows have them, and the changes that ask for them.
 ghost use Rattle.mf_policy.specs.IsChange.{IsChange};
 
-use mf_cred::ArrayVec;
-use mf_policy::{Change, Spec};
+use mf_policy::{Change, Policy, Spec};
 use mf_rule::read_ports;
 
 /// The settings `primarygroup_enabled`, `specificgid_enabled`, `specificgid` and `suser_privileged` of mac_seeotheruids.
@@ -12,6 +11,7 @@ pub type See = (bool, bool, u32, bool);
 pub type Acl = (&'static str, u32, bool, bool);
 
 /// What a change asks for: revocation or first match so, or these settings of mac_seeotheruids or of mac_portacl.
+#[derive(Drop)]
 pub enum Asked {
     Revocation(bool),
     FirstMatch(bool),
@@ -30,18 +30,26 @@ pub fn see(settings: See) -> Spec {
     }
 }
 
-/// mac_portacl with these settings; a text that is no rules counts as none.
+/// mac_portacl with these settings. A text that is no rules makes it another module, which no policy takes as settings or has.
 pub fn acl(settings: Acl) -> Spec {
     let (rules, port_high, suser, autoport) = settings;
-    let rules = match read_ports(rules) {
-        Some(rules) => rules,
-        None => ArrayVec::new(),
-    };
-    Spec::Portacl {
-        rules,
-        port_high,
-        suser,
-        autoport,
+    match read_ports(rules) {
+        Some(rules) => Spec::Portacl {
+            rules,
+            port_high,
+            suser,
+            autoport,
+        },
+        None => Spec::Mls,
+    }
+}
+
+/// Whether the policy has these settings.
+pub fn has<P: Policy>(policy: &P, asked: &Asked) -> bool {
+    match asked {
+        Asked::Sights(settings) => policy.same(&see(*settings)),
+        Asked::Ports(settings) => policy.same(&acl(*settings)),
+        Asked::Revocation(_) | Asked::FirstMatch(_) => false,
     }
 }
 

@@ -142,13 +142,21 @@ fn is_change(found: &Change, wanted: &Asked) -> bool {
     }
 }
 
+/// Whether that was asked for, or nothing.
+fn is_asked(found: Option<&Change>, wanted: Option<&Asked>) -> bool {
+    match found {
+        Some(found) => match wanted {
+            Some(wanted) => is_change(found, wanted),
+            None => false,
+        },
+        None => wanted.is_none(),
+    }
+}
+
 /// Whether the value asks for that where these policies are listed.
 fn asks(list: &SpecList, sysctl: Sysctl, value: &str, wanted: Option<&Asked>) -> bool {
-    match (&sysctl.asked_of(list, value), wanted) {
-        (None, None) => true,
-        (Some(found), Some(wanted)) => is_change(found, wanted),
-        _ => false,
-    }
+    let found = sysctl.asked_of(list, value);
+    is_asked(found.as_ref(), wanted)
 }
 
 /// Lists a module that has such settings.
@@ -161,14 +169,16 @@ fn list(specs: &mut SpecList, module: Module, spec: Spec) -> Result<(), AllocErr
     specs.list(registration, spec)
 }
 
-/// Lists the modules that have such settings, each with one of these specs.
+/// Lists the module in its initial state.
+fn list_fresh(alloc: Global, specs: &mut SpecList, module: Module) -> Result<(), AllocError> {
+    let fresh = Spec::fresh(alloc, module)?;
+    list(specs, module, fresh)
+}
+
+/// Lists the modules that have such settings.
 fn list_all(alloc: Global, specs: &mut SpecList) -> Result<(), AllocError> {
-    list(specs, Module::Biba, Spec::fresh(alloc, Module::Biba)?)?;
-    list(
-        specs,
-        Module::Bsdextended,
-        Spec::fresh(alloc, Module::Bsdextended)?,
-    )?;
+    list_fresh(alloc, specs, Module::Biba)?;
+    list_fresh(alloc, specs, Module::Bsdextended)?;
     list(specs, Module::Seeotheruids, see(SEE))?;
     list(specs, Module::Portacl, acl(ACL))
 }
