@@ -13,9 +13,11 @@ mod labels;
 mod limits;
 mod load;
 mod modules;
+mod refused_steps;
 mod relabels;
 mod rows;
 mod rules;
+mod sinking;
 mod sources;
 mod stepping;
 mod streams;
@@ -26,7 +28,7 @@ mod watermark;
 
 use mf_biba::Biba;
 use mf_bsdextended::Bsdextended;
-use mf_io::{Gate, MemSink, MemSource, OpenGate, Sink, Source};
+use mf_io::{Gate, MemSink, MemSource, Sink, Source};
 use mf_lomac::Lomac;
 use mf_mls::Mls;
 use mf_partition::Partition;
@@ -140,15 +142,6 @@ fn wants_that<R: Abort>(rt: &R, name: &str, holds: bool) {
     assert!(rt; holds, "{name}");
 }
 
-/// Wants this exit status, and that the sink took this text.
-fn wants<R: Abort>(rt: &R, name: &str, status: u8, wanted: u8, sink: &MemSink, text: &str) {
-    wants_that(
-        rt,
-        name,
-        status == wanted && sink.taken() == text.as_bytes(),
-    );
-}
-
 /// A source of the script, which gives at most so many bytes a call and fails at these calls.
 fn source_of(
     alloc: Global,
@@ -162,7 +155,21 @@ fn source_of(
     Ok(MemSource::new(bytes, most, fails.to_vec(alloc)?))
 }
 
-/// What the program writes over the source, with exit status 0, into a sink that takes at most so many bytes a call.
+/// What the program writes over the source and into this empty sink, with exit status 0.
+fn text_in<S: Source, G: Gate, R: Abort + Threads + Wait + Sync>(
+    rt: &R,
+    alloc: Global,
+    words: &[&str],
+    source: &mut S,
+    sink: &mut MemSink,
+    gate: &G,
+) -> Result<String, AllocError> {
+    let status = run_with(rt, alloc, words, source, sink, gate)?;
+    wants_that(rt, "exit status", status == 0);
+    String::from_utf8_lossy(alloc, sink.taken())
+}
+
+/// The same into a sink that takes at most so many bytes a call.
 fn written_over<S: Source, G: Gate, R: Abort + Threads + Wait + Sync>(
     rt: &R,
     alloc: Global,
@@ -174,9 +181,20 @@ fn written_over<S: Source, G: Gate, R: Abort + Threads + Wait + Sync>(
     requires { 0 < most }
 {
     let mut sink = MemSink::new(alloc, 100_000, most, Vec::new(alloc))?;
-    let status = run_with(rt, alloc, words, source, &mut sink, gate)?;
-    wants_that(rt, "exit status", status == 0);
-    String::from_utf8_lossy(alloc, sink.taken())
+    text_in(rt, alloc, words, source, &mut sink, gate)
+}
+
+/// What the program writes of the script with this gate and exit status 0, where it is called with this word. It reads at most 64
+/// bytes a call, and writes at most 10.
+fn text_of<G: Gate, R: Abort + Threads + Wait + Sync>(
+    rt: &R,
+    alloc: Global,
+    word: &str,
+    script: &str,
+    gate: &G,
+) -> Result<String, AllocError> {
+    let source = &mut source_of(alloc, script, 64, &[])?;
+    written_over(rt, alloc, &[word], source, 10, gate)
 }
 
 /// The text of a run of the script with this gate, whose exit status is 0.
@@ -186,8 +204,7 @@ fn text_of_run<G: Gate, R: Abort + Threads + Wait + Sync>(
     script: &str,
     gate: &G,
 ) -> Result<String, AllocError> {
-    let source = &mut source_of(alloc, script, 65_536, &[])?;
-    written_over(rt, alloc, &["run"], source, 100_000, gate)
+    text_of(rt, alloc, "run", script, gate)
 }
 
 /// The summary of a generated load of these words with this gate, whose exit status is 0. Each read of the source would fail.

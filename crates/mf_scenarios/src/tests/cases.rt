@@ -1,6 +1,6 @@
 //! Words, scripts and faults, and what the program makes of them.
 
-use crate::tests::{DENIAL, DENIED, run_over, run_with, source_of, wants, words_of};
+use crate::tests::{DENIAL, DENIED, run_over, run_with, source_of, wants_that};
 use mf_io::{MemSink, MemSource, OpenGate};
 use std::alloc::{AllocError, Global};
 use std::process::Abort;
@@ -187,30 +187,50 @@ const OTHER_WORDS: &[&[&str]] = &[
     &["gen", "1", "1", "1"],
 ];
 
+/// Runs the program with these words, or takes the steps where there are none, over this source and this sink.
+fn status_of<R: Abort + Threads + Wait + Sync>(
+    rt: &R,
+    alloc: Global,
+    words: Option<&[&str]>,
+    source: &mut MemSource,
+    sink: &mut MemSink,
+) -> Result<u8, AllocError> {
+    match words {
+        Some(words) => run_with(rt, alloc, words, source, sink, &OpenGate),
+        None => run_over(rt, alloc, None, source, sink, &OpenGate),
+    }
+}
+
+/// Whether the case's status and text come of the case's source and this sink.
+fn comes_out<R: Abort + Threads + Wait + Sync>(
+    rt: &R,
+    alloc: Global,
+    words: Option<&[&str]>,
+    case: &Case,
+    sink: &mut MemSink,
+) -> Result<bool, AllocError> {
+    let source = &mut source_of(alloc, case.script, 64, case.source_fails)?;
+    let status = status_of(rt, alloc, words, source, sink)?;
+    Ok(status == case.status && sink.taken() == case.text.as_bytes())
+}
+
+/// The sink of the case, which takes at most 10 bytes a call.
+fn sink_of(alloc: Global, case: &Case) -> Result<MemSink, AllocError> {
+    MemSink::new(alloc, 10_000, 10, case.sink_fails.to_vec(alloc)?)
+}
+
 /// Runs the program with these words, or takes the steps where there are none, over a source that gives at most 64 bytes a
 /// call and a sink that takes at most 10, and wants the case's status and text.
 pub fn wants_case<R: Abort + Threads + Wait + Sync>(
     rt: &R,
     alloc: Global,
-    words: Option<&[String]>,
+    words: Option<&[&str]>,
     case: &Case,
 ) -> Result<(), AllocError> {
-    let source = &mut source_of(alloc, case.script, 64, case.source_fails)?;
-    let fails = case.sink_fails.to_vec(alloc)?;
-    let sink = &mut MemSink::new(alloc, 10_000, 10, fails)?;
-    let status = run_over(rt, alloc, words, source, sink, &OpenGate)?;
-    wants(rt, case.name, status, case.status, sink, case.text);
+    let sink = &mut sink_of(alloc, case)?;
+    let holds = comes_out(rt, alloc, words, case, sink)?;
+    wants_that(rt, case.name, holds);
     Ok(())
-}
-
-/// Runs the program with the case's words.
-fn run_case<R: Abort + Threads + Wait + Sync>(
-    rt: &R,
-    alloc: Global,
-    case: &Case,
-) -> Result<(), AllocError> {
-    let words = words_of(alloc, case.words)?;
-    wants_case(rt, alloc, Some(words.as_slice()), case)
 }
 
 /// Runs each case of a table.
@@ -220,7 +240,7 @@ pub fn run_cases<R: Abort + Threads + Wait + Sync>(
     table: &[Case],
 ) -> Result<(), AllocError> {
     for case in table {
-        run_case(rt, alloc, case)?;
+        wants_case(rt, alloc, Some(case.words), case)?;
     }
     Ok(())
 }
@@ -249,7 +269,7 @@ fn wants_usage<R: Abort + Threads + Wait + Sync>(
         text: "macsim: usage: run | step | gen N T\n",
         ..PLAIN
     };
-    run_case(rt, alloc, &case)
+    wants_case(rt, alloc, Some(words), &case)
 }
 
 #[test]
@@ -268,7 +288,8 @@ fn wants_too_long<R: Abort + Threads + Wait + Sync>(
 ) -> Result<(), AllocError> {
     let sink = &mut MemSink::new(alloc, 100, 100, Vec::new(alloc))?;
     let status = run_with(rt, alloc, &["run"], source, sink, &OpenGate)?;
-    wants(rt, "too long", status, 6, sink, "macsim: too long\n");
+    let is_told = sink.taken() == b"macsim: too long\n".as_slice();
+    wants_that(rt, "too long", status == 6 && is_told);
     Ok(())
 }
 

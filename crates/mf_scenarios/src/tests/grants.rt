@@ -3,55 +3,49 @@
 use crate::tests::gates::{is_raised, wants_count};
 use crate::tests::tasks::wants_replies;
 use crate::tests::text_of_run;
-use crate::tests::transcript::{PLAIN, Rows, run_table};
+use crate::tests::transcript::run_scenarios;
 use mf_io::Gate;
 use std::alloc::AllocError;
 use std::sync::Wait;
 use std::sync::atomic::{AtomicU64, Ordering};
 use std::thread::Threads;
 
-const GRANTS: &[Rows] = &[
-    Rows {
-        name: "mac_priority(4): a realtime user",
-        before: "boot mac_priority\n",
-        task: "uid 1001 gid 1001,47 label -",
-        rows: &[
-            ("priv SCHED_RTPRIO", "ok"),
-            ("priv SCHED_IDPRIO", "no EPERM priv - 1"),
-            ("priv KLD_LOAD", "no EPERM priv - 1"),
-            ("fork c", "ok"),
-            ("@c priv SCHED_RTPRIO", "ok"),
-        ],
-        boots: "boot mac_priority -\n",
-        ..PLAIN
-    },
-    Rows {
-        name: "one grant is enough, whoever is listed beside",
-        before: "boot mac_partition\nboot mac_priority\nboot mac_bsdextended\n",
-        task: "uid 1001 gid 48 label partition/1",
-        rows: &[
-            ("priv SCHED_RTPRIO", "no EPERM priv - 1"),
-            ("priv SCHED_IDPRIO", "ok"),
-        ],
-        boots: "boot mac_partition 0\nboot mac_priority -\nboot mac_bsdextended -\n",
-        ..PLAIN
-    },
-    Rows {
-        name: "root has every privilege",
-        rows: &[
-            ("priv KLD_LOAD", "ok"),
-            ("priv KLD_UNLOAD", "ok"),
-            ("priv MAC_PARTITION", "ok"),
-            ("priv SCHED_RTPRIO", "ok"),
-            ("priv SCHED_IDPRIO", "ok"),
-        ],
-        ..PLAIN
-    },
-];
+const GRANTS: &str = "mac_priority(4): a realtime user
+boot mac_priority
+task t uid 1001 gid 1001,47 label -
+= boot mac_priority -
+priv SCHED_RTPRIO -> ok
+priv SCHED_IDPRIO -> no EPERM priv - 1
+priv KLD_LOAD -> no EPERM priv - 1
+fork c -> ok
+@c priv SCHED_RTPRIO -> ok
+end
+
+one grant is enough, whoever is listed beside
+boot mac_partition
+boot mac_priority
+boot mac_bsdextended
+task t uid 1001 gid 48 label partition/1
+= boot mac_partition 0
+= boot mac_priority -
+= boot mac_bsdextended -
+priv SCHED_RTPRIO -> no EPERM priv - 1
+priv SCHED_IDPRIO -> ok
+end
+
+root has every privilege
+task t uid 0 gid 0 label -
+priv KLD_LOAD -> ok
+priv KLD_UNLOAD -> ok
+priv MAC_PARTITION -> ok
+priv SCHED_RTPRIO -> ok
+priv SCHED_IDPRIO -> ok
+end
+";
 
 #[test]
 fn grants(rt: HostRuntime) -> Result<(), AllocError> {
-    run_table(&rt, rt.alloc(), GRANTS)
+    run_scenarios(&rt, rt.alloc(), "run", GRANTS)
 }
 
 /// A realtime user asks three times. Root loads the module after the first time, and unloads it after the second.

@@ -1,6 +1,7 @@
 //! As much of each kind as there may be, and then more.
 
-use crate::tests::transcript::{PLAIN, Rows, Transcript};
+use crate::tests::transcript::Transcript;
+use crate::tests::wants_that;
 use std::alloc::{AllocError, Global};
 use std::process::Abort;
 use std::sync::Wait;
@@ -14,7 +15,7 @@ struct Fill {
     reply: &'static str,
     from: u32,
     to: u32,
-    behind: &'static [(&'static str, &'static str)],
+    behind: &'static str,
 }
 
 /// Of a file, a pipe and a socket.
@@ -25,7 +26,9 @@ const OBJECTS: &[Fill] = &[
         reply: "ok",
         from: 0,
         to: 1,
-        behind: &[("write /f a", "no EFBIG - -"), ("pipe p", "ok")],
+        behind: "write /f a -> no EFBIG - -
+pipe p -> ok
+",
     },
     Fill {
         line: "pwrite p ",
@@ -33,7 +36,9 @@ const OBJECTS: &[Fill] = &[
         reply: "ok",
         from: 0,
         to: 1,
-        behind: &[("pwrite p a", "no EAGAIN - -"), ("socket s", "ok")],
+        behind: "pwrite p a -> no EAGAIN - -
+socket s -> ok
+",
     },
     Fill {
         line: "send s s x",
@@ -41,7 +46,8 @@ const OBJECTS: &[Fill] = &[
         reply: "ok",
         from: 0,
         to: 16,
-        behind: &[("send s s x", "no ENOBUFS - -")],
+        behind: "send s s x -> no ENOBUFS - -
+",
     },
 ];
 
@@ -52,10 +58,9 @@ const ENTITIES: &[Fill] = &[Fill {
     reply: "ok",
     from: 1,
     to: 1023,
-    behind: &[
-        ("pipe p1023", "no ENFILE - -"),
-        ("pipe p1", "no EEXIST - -"),
-    ],
+    behind: "pipe p1023 -> no ENFILE - -
+pipe p1 -> no EEXIST - -
+",
 }];
 
 /// There is no room, and then for one.
@@ -65,12 +70,11 @@ const RULES: &[Fill] = &[Fill {
     reply: "ok rule #",
     from: 0,
     to: 250,
-    behind: &[
-        ("ugidfw add subject uid 5 object mode n", "no ENOBUFS - -"),
-        ("ugidfw remove 0", "ok"),
-        ("ugidfw remove 0", "no ENOENT - -"),
-        ("ugidfw add subject uid 5 object mode n", "ok rule 0"),
-    ],
+    behind: "ugidfw add subject uid 5 object mode n -> no ENOBUFS - -
+ugidfw remove 0 -> ok
+ugidfw remove 0 -> no ENOENT - -
+ugidfw add subject uid 5 object mode n -> ok rule 0
+",
 }];
 
 /// The text with the number in the place of `#`.
@@ -110,42 +114,62 @@ fn add_fill(alloc: Global, transcript: &mut Transcript, fill: &Fill) -> Result<(
     transcript.add_all(fill.behind)
 }
 
-/// Runs the task with these lines, and compares its history and its sources.
-fn run_fills<R: Abort + Threads + Wait + Sync>(
-    rt: &R,
+/// Adds the lines of a scenario up to those of the task, all of these, and the task's end.
+fn add_fills(
     alloc: Global,
-    rows: &Rows,
+    transcript: &mut Transcript,
+    front: &str,
     fills: &[Fill],
 ) -> Result<(), AllocError> {
-    let mut transcript = Transcript::new(alloc, rows)?;
+    transcript.add_all(front)?;
     for fill in fills {
-        add_fill(alloc, &mut transcript, fill)?;
+        add_fill(alloc, transcript, fill)?;
     }
-    transcript.end(rt, alloc, rows)
+    transcript.add_all("end\n")
 }
+
+/// Whether the lines are answered so.
+fn are_answered<R: Abort + Threads + Wait + Sync>(
+    rt: &R,
+    alloc: Global,
+    front: &str,
+    fills: &[Fill],
+) -> Result<bool, AllocError> {
+    let mut transcript = Transcript::new(alloc);
+    add_fills(alloc, &mut transcript, front, fills)?;
+    transcript.is_written(rt, alloc, "run")
+}
+
+const WITH_FILE: &str = "file /f reg uid 0 gid 0 mode 644 label -
+task t uid 0 gid 0 label -
+";
 
 #[test]
 fn limits_of_objects(rt: HostRuntime) -> Result<(), AllocError> {
-    let rows = Rows {
-        name: "limits of objects",
-        before: "file /f reg uid 0 gid 0 mode 644 label -\n",
-        ..PLAIN
-    };
-    run_fills(&rt, rt.alloc(), &rows, OBJECTS)
+    let holds = are_answered(&rt, rt.alloc(), WITH_FILE, OBJECTS)?;
+    wants_that(&rt, "limits of objects", holds);
+    Ok(())
 }
+
+const ALONE: &str = "task t uid 0 gid 0 label -
+";
 
 #[test]
 fn table_of_entities_full(rt: HostRuntime) -> Result<(), AllocError> {
-    run_fills(&rt, rt.alloc(), &PLAIN, ENTITIES)
+    let holds = are_answered(&rt, rt.alloc(), ALONE, ENTITIES)?;
+    wants_that(&rt, "entities", holds);
+    Ok(())
 }
+
+const WITH_RULES: &str = "boot mac_bsdextended
+file /f reg uid 0 gid 0 mode 644 label - text hi
+task t uid 0 gid 0 label -
+= boot mac_bsdextended -
+";
 
 #[test]
 fn a_full_rule_list(rt: HostRuntime) -> Result<(), AllocError> {
-    let rows = Rows {
-        name: "a full rule list",
-        before: "boot mac_bsdextended\nfile /f reg uid 0 gid 0 mode 644 label - text hi\n",
-        boots: "boot mac_bsdextended -\n",
-        ..PLAIN
-    };
-    run_fills(&rt, rt.alloc(), &rows, RULES)
+    let holds = are_answered(&rt, rt.alloc(), WITH_RULES, RULES)?;
+    wants_that(&rt, "a full rule list", holds);
+    Ok(())
 }

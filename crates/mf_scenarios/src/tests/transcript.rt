@@ -1,108 +1,72 @@
-//! The lines of a task, each with its reply.
+//! Scenarios: what the lines of a script are answered, and what the program then writes.
+//!
+//! A scenario is a paragraph of a text: its name, and then its lines. `CALL -> REPLY` is a line of the task `t`, with its reply.
+//! Behind `= ` stands a line that the program writes besides. Each other line is one of the script.
 
-use crate::tests::{text_of_run, wants_that};
+use crate::tests::{text_of, wants_that};
 use mf_io::OpenGate;
 use std::alloc::{AllocError, Global};
 use std::process::Abort;
 use std::sync::Wait;
 use std::thread::Threads;
 
-/// A task `t` with its lines, each beside its reply.
-#[derive(Clone, Copy)]
-pub struct Rows {
-    pub name: &'static str,
-    /// What stands before the task in the script.
-    pub before: &'static str,
-    /// What the task is, behind its name.
-    pub task: &'static str,
-    pub rows: &'static [(&'static str, &'static str)],
-    /// What stands behind the task in the script.
-    pub behind: &'static str,
-    /// The lines of the registrations at boot.
-    pub boots: &'static str,
-    /// The lines of the sources.
-    pub sources: &'static str,
-}
-
-/// A task without lines, and no policy.
-pub const PLAIN: Rows = Rows {
-    name: "",
-    before: "",
-    task: "uid 0 gid 0 label -",
-    rows: &[],
-    behind: "",
-    boots: "",
-    sources: "",
-};
-
-/// A script, and the text of its history.
+/// A script, and the text that the program writes of it.
 #[derive(Drop)]
 pub struct Transcript {
     script: String,
     text: String,
-    lines: u32,
+    calls: u32,
 }
 
 impl Transcript {
-    /// The script up to the task's first line.
-    pub fn new(alloc: Global, rows: &Rows) -> Result<Transcript, AllocError> {
-        let before = rows.before;
-        let task = rows.task;
-        Ok(Transcript {
-            script: format!(in alloc; "{before}task t {task}\n")?,
-            text: String::from_str(alloc, rows.boots)?,
-            lines: 0,
-        })
+    pub fn new(alloc: Global) -> Transcript {
+        Transcript {
+            script: String::new(alloc),
+            text: String::new(alloc),
+            calls: 0,
+        }
     }
 
-    /// One more line, and the events of its reply.
-    pub fn add(&mut self, line: &str, reply: &str) -> Result<(), AllocError> {
-        self.lines = self.lines.saturating_add(1);
-        let number = self.lines;
-        write!(self.script, "{line}\n")?;
-        if is_change(line) {
+    /// One more call of the task `t`, and the events of its reply.
+    pub fn add(&mut self, call: &str, reply: &str) -> Result<(), AllocError> {
+        self.calls = self.calls.saturating_add(1);
+        let number = self.calls;
+        write!(self.script, "{call}\n")?;
+        if is_change(call) {
             write!(self.text, "changed t {number} {reply}\n")
         } else {
             write!(self.text, "enter t\ndone t {number} {reply}\nleave t\n")
         }
     }
 
-    /// More lines, each with its reply.
-    pub fn add_all(&mut self, rows: &[(&str, &str)]) -> Result<(), AllocError> {
-        for (line, reply) in rows {
-            self.add(line, reply)?;
+    /// One more line of a scenario.
+    fn add_line(&mut self, line: &str) -> Result<(), AllocError> {
+        if let Some(written) = line.strip_prefix("= ") {
+            return write!(self.text, "{written}\n");
+        }
+        match line.split_once(" -> ") {
+            Some((call, reply)) => self.add(call, reply),
+            None => write!(self.script, "{line}\n"),
+        }
+    }
+
+    /// More lines of a scenario.
+    pub fn add_all(&mut self, lines: &str) -> Result<(), AllocError> {
+        for line in lines.lines() {
+            self.add_line(line)?;
         }
         Ok(())
     }
 
-    /// Ends the task, and the history with its sources.
-    fn close(&mut self, rows: &Rows) -> Result<(), AllocError> {
-        let behind = rows.behind;
-        write!(self.script, "end\n{behind}")?;
-        self.text.push_str(rows.sources)
-    }
-
-    /// Runs the script, and compares the texts.
-    fn run<R: Abort + Threads + Wait + Sync>(
+    /// Whether the program writes that text where it is called with this word.
+    pub fn is_written<R: Abort + Threads + Wait + Sync>(
         &self,
         rt: &R,
         alloc: Global,
-        name: &str,
-    ) -> Result<(), AllocError> {
-        let text = text_of_run(rt, alloc, self.script.as_str(), &OpenGate)?;
-        wants_that(rt, name, text.as_str() == self.text.as_str());
-        Ok(())
-    }
-
-    /// Ends the task, runs the script, and compares the texts.
-    pub fn end<R: Abort + Threads + Wait + Sync>(
-        mut self,
-        rt: &R,
-        alloc: Global,
-        rows: &Rows,
-    ) -> Result<(), AllocError> {
-        self.close(rows)?;
-        self.run(rt, alloc, rows.name)
+        word: &str,
+    ) -> Result<bool, AllocError> {
+        let text = text_of(rt, alloc, word, self.script.as_str(), &OpenGate)?;
+        Ok(text.as_str() == self.text.as_str())
     }
 }
 
@@ -114,25 +78,42 @@ fn is_change(line: &str) -> bool {
         || (line.starts_with("ugidfw") && line != "ugidfw list")
 }
 
-/// Runs the task, and compares its history and its sources.
-fn run_rows<R: Abort + Threads + Wait + Sync>(
+/// Whether the scenario of these lines comes out as they say where the program is called with this word.
+fn comes_out<R: Abort + Threads + Wait + Sync>(
     rt: &R,
     alloc: Global,
-    rows: &Rows,
-) -> Result<(), AllocError> {
-    let mut transcript = Transcript::new(alloc, rows)?;
-    transcript.add_all(rows.rows)?;
-    transcript.end(rt, alloc, rows)
+    word: &str,
+    lines: &str,
+) -> Result<bool, AllocError> {
+    let mut transcript = Transcript::new(alloc);
+    transcript.add_all(lines)?;
+    transcript.is_written(rt, alloc, word)
 }
 
-/// Runs each task of a table, and compares its history and its sources.
-pub fn run_table<R: Abort + Threads + Wait + Sync>(
+/// Runs a scenario, which must have a name.
+fn run_scenario<R: Abort + Threads + Wait + Sync>(
     rt: &R,
     alloc: Global,
-    table: &[Rows],
+    word: &str,
+    scenario: &str,
 ) -> Result<(), AllocError> {
-    for rows in table {
-        run_rows(rt, alloc, rows)?;
+    let (name, holds) = match scenario.split_once('\n') {
+        Some((name, lines)) => (name, comes_out(rt, alloc, word, lines)?),
+        None => (scenario, false),
+    };
+    wants_that(rt, name, holds);
+    Ok(())
+}
+
+/// Runs each scenario of the text where the program is called with this word.
+pub fn run_scenarios<R: Abort + Threads + Wait + Sync>(
+    rt: &R,
+    alloc: Global,
+    word: &str,
+    scenarios: &str,
+) -> Result<(), AllocError> {
+    for scenario in scenarios.split("\n\n") {
+        run_scenario(rt, alloc, word, scenario)?;
     }
     Ok(())
 }
