@@ -19,7 +19,8 @@ pub fn binding_answer(
     item: &Item,
 ) -> Errno
     ensures { result ≡ spec.binding_answer
-        (spec.may_bind rules.now port_high suser autoport item.now.subject.cred) item.now.op item.now.port }
+        (spec.may_bind rules.now port_high suser autoport item.now.subject.cred)
+        item.now.op item.now.port }
 {
     if !matches!(item.op(), CheckOp::SocketBind) {
         return Errno::Success;
@@ -52,7 +53,8 @@ fn may_bind(
 
 /// Whether a rule gives the subject the port.
 fn is_given(rules: &[PortRule], cred: &Cred, port: (bool, u16)) -> bool
-    ensures { result ≡ list_any (λ rule. (if rule.tcp then port.0 else not port.0) && rule.port == port.1
+    ensures { result
+        ≡ list_any (λ rule. (if rule.tcp then port.0 else not port.0) && rule.port == port.1
         && (if rule.group then in_group cred.now rule.id else cred.now.uid == rule.id)) rules.now }
 {
     rules.iter().any(|rule| gives(rule, cred, port))
@@ -61,7 +63,8 @@ fn is_given(rules: &[PortRule], cred: &Cred, port: (bool, u16)) -> bool
 /// Whether the rule gives the subject the port.
 fn gives(rule: &PortRule, cred: &Cred, port: (bool, u16)) -> bool
     ensures { result ≡ ((if rule.now.tcp then port.0 else not port.0) && rule.now.port == port.1
-        && (if rule.now.group then in_group cred.now rule.now.id else cred.now.uid == rule.now.id)) }
+        && (if rule.now.group then in_group cred.now rule.now.id
+        else cred.now.uid == rule.now.id)) }
 {
     is_for(port, rule) && is_held_by(cred, rule)
 }
@@ -75,7 +78,8 @@ fn is_for(port: (bool, u16), rule: &PortRule) -> bool
 
 /// Whether the rule is for the subject, by one of its groups or by its effective uid.
 fn is_held_by(cred: &Cred, rule: &PortRule) -> bool
-    ensures { result ≡ (if rule.now.group then in_group cred.now rule.now.id else cred.now.uid == rule.now.id) }
+    ensures { result
+        ≡ (if rule.now.group then in_group cred.now rule.now.id else cred.now.uid == rule.now.id) }
 {
     if rule.group {
         cred.in_group(rule.id)

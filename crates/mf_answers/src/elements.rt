@@ -49,7 +49,9 @@ fn labels_answer(
     asked: &RangeLabel,
     object: &Option<Elem>,
 ) -> Errno
-    ensures { result ≡ spec.labels_answer (policy_of order) test label.now asked.now label.now.effective object.now }
+    ensures { result
+        ≡ spec.labels_answer (policy_of order) test
+        label.now asked.now label.now.effective object.now }
 {
     let Some(subject) = &label.effective else {
         return Errno::Success;

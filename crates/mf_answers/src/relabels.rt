@@ -62,7 +62,8 @@ pub fn object_relabel(subject: &RangeLabel, old: &Elem, asked: &RangeLabel) -> E
 
 /// Whether a subject without privilege gives the element `equal`.
 fn makes_equal(subject: &RangeLabel, element: &Option<Elem>) -> bool
-    ensures { result ≡ (option_map_or is_equal element.now false && not (is_privileged subject.now)) }
+    ensures { result
+        ≡ (option_map_or is_equal element.now false && not (is_privileged subject.now)) }
 {
     match element {
         Some(Elem::Equal) => !privileged(subject),

@@ -9,7 +9,9 @@ use mf_item::Item;
 
 /// Whether the subject of an item sees its object, by these settings of the policy.
 pub fn sees(primarygroup: bool, specific: bool, gid: u32, suser: bool, item: &Item) -> bool
-    ensures { result ≡ spec.may_see primarygroup specific gid suser item.now.subject.cred (attributes_of item.now.object) }
+    ensures { result
+        ≡ spec.may_see primarygroup specific gid suser item.now.subject.cred
+        (attributes_of item.now.object) }
 {
     let process = attributes_of(item.object());
     may_see(

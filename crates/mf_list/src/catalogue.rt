@@ -36,7 +36,9 @@ impl<P: Policy> Model for Catalogue<P> {
 
     ghost view = { λ a. map (λ p. module_of (P.spec p)) a.policies.items };
 
-    ghost invariant = { λ a. All (λ p. IsFresh (P.spec p)) a.policies.items × AreDistinct (map (λ p. module_of (P.spec p)) a.policies.items) × (MOST_LISTED ≤ vec_capacity a.policies) };
+    ghost invariant = { λ a. All (λ p. IsFresh (P.spec p)) a.policies.items
+        × AreDistinct (map (λ p. module_of (P.spec p)) a.policies.items)
+        × (MOST_LISTED ≤ vec_capacity a.policies) };
 }
 
 impl<P: Policy> Catalogue<P> {

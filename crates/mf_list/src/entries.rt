@@ -30,7 +30,8 @@ impl<P: Policy> Model for Entries<P> {
 
     ghost view = { λ a. a.policies.items };
 
-    ghost invariant = { λ a. IsListedOnce a.policies.items × (MOST_LISTED ≤ vec_capacity a.policies) };
+    ghost invariant = { λ a. IsListedOnce a.policies.items
+        × (MOST_LISTED ≤ vec_capacity a.policies) };
 }
 
 impl<P: Policy> Entries<P> {

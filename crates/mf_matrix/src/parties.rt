@@ -48,7 +48,8 @@ fn push_party(
     parties: &mut Vec<Party>,
 ) -> Result<(), AllocError>
     requires { IsSome (live_at objects.now id) }
-    ensures { OnOk result (parties.new.items ≡ parties.old.items ++ spec.party_of objects.now id ∷ []) }
+    ensures { OnOk result (parties.new.items
+        ≡ parties.old.items ++ spec.party_of objects.now id ∷ []) }
 {
     let title = title_of(alloc, objects, id)?;
     let label = objects.label(id);

@@ -37,16 +37,19 @@ next_found (x ∷ es) (suc n) least next d within rising =
     let place : suc n + 1 ≡ suc (n + 1) = omega arith in
     rw (miss, place) (next_found es n (x.id.0 + 1) next d (omega arith) rising.1)
 
+-- what is at a place is what is read there by default
 pub got : {A : Type 0} (xs : List A) (n : ℕ) (x d : A) → slice_get xs n ≡ Some x → get_or xs n d ≡ x
 got [] n x d found = cc
 got (y ∷ xs) zero x d found = cc
 got (y ∷ xs) (suc n) x d found = got xs n x d found
 
+-- within its length, a list has something at each place
 pub there : {A : Type 0} (xs : List A) (n : ℕ) → n < length xs → slice_get xs n ≡ None → ⊥
 there [] n within none = absurd (omega arith)
 there (y ∷ xs) zero within none = cc
 there (y ∷ xs) (suc n) within none = there xs n (omega arith) none
 
+-- one more than so many is these and the next
 pub taken_more : {A : Type 0} (xs : List A) (n : ℕ) (x : A) → slice_get xs n ≡ Some x → take (n + 1) xs ≡ take n xs ++ x ∷ []
 taken_more [] n x found = cc
 taken_more (y ∷ xs) zero x found =

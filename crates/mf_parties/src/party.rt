@@ -32,7 +32,8 @@ impl Model for Party {
 
     ghost Value = { LiveEntity };
 
-    ghost view = { λ p. record { id = p.id; name = p.name; label = p.label; what = data_of p.what } };
+    ghost view = { λ p.
+        record { id = p.id; name = p.name; label = p.label; what = data_of p.what } };
 }
 
 impl Party {

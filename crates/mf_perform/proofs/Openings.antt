@@ -238,9 +238,9 @@ abbrev fds_made : Effect → List Fd
 fds_made (Make name what) = fds_of what
 fds_made other = []
 
-none_made : (s : State) (task : List ℕ) (me : Id) (c : Call) (what : At (about_of s task me c).place) → fds_made ((about_of s task me c).row what).effect ≡ []
-none_made s task me call.Exit what = refl
-none_made s task me other what = refl
+made_with_none_open : (s : State) (task : List ℕ) (me : Id) (c : Call) (what : At (about_of s task me c).place) → fds_made ((about_of s task me c).row what).effect ≡ []
+made_with_none_open s task me call.Exit what = refl
+made_with_none_open s task me other what = refl
 
 row_opens : (s : State) (task : List ℕ) (me : Id) (c : Call) → OpensAlone s me c (row_for s task c me).effect × (fds_made (row_for s task c me).effect ≡ [])
 row_opens s task me c = one (way_to s me (about_of s task me c).place).there refl
@@ -253,7 +253,7 @@ row_opens s task me c = one (way_to s me (about_of s task me c).place).there ref
 
     one : (there : Result (At (about_of s task me c).place) Errno) → (way_to s me (about_of s task me c).place).there ≡ there
         → OpensAlone s me c (whole there) × (fds_made (whole there) ≡ [])
-    one (Ok what) is = (there_opens s task me c what is, none_made s task me c what)
+    one (Ok what) is = (there_opens s task me c what is, made_with_none_open s task me c what)
     one (Err e) is = (tt, refl)
 
 -- a call opens a file for the process of that id: it is its caller, the call was done, and the file stands at the path

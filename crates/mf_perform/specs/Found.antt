@@ -41,7 +41,7 @@ use Rattle.mf_perform.specs.Effect.{after}
 
 -- Effects
 
--- nothing changes where nothing was found
+-- the change of what was found; where nothing was, nothing changes
 abbrev pub where_found : (Id → Effect) → Option Id → Effect
 where_found change found = option_map_or change found Unchanged
 

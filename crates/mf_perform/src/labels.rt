@@ -47,7 +47,8 @@ fn push_part(
     parts: &mut ArrayVec<LabelPart, SLOTS>,
 )
     requires { length parts.old < SLOTS }
-    ensures parts { parts.new ≡ parts.old ++ label_parts_of specs.now kind label.now («module» ∷ []) }
+    ensures parts { parts.new
+        ≡ parts.old ++ label_parts_of specs.now kind label.now («module» ∷ []) }
     ensures few { length parts.new ≤ length parts.old + 1 }
 {
     if !labels_kind(module, kind) {

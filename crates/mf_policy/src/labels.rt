@@ -81,8 +81,10 @@ fn relabelled_value(
 
 /// Whether a relabel that asks for this sets the value of the module's slot. Partition 0 sets none.
 pub fn sets_value(module: Module, request: &Request) -> bool
-    ensures none { result ≡ false → (value : LabelValue) → after.value_after «module» request.now value ≡ value }
-    ensures some { result ≡ true → (value : LabelValue) → after.value_after «module» request.now value ≢ Unset }
+    ensures none { result ≡ false
+        → (value : LabelValue) → after.value_after «module» request.now value ≡ value }
+    ensures some { result ≡ true
+        → (value : LabelValue) → after.value_after «module» request.now value ≢ Unset }
 {
     range_asked(module, request).is_some() || matches!(number_asked(module, request), Some(1..))
 }

@@ -47,14 +47,14 @@ pub fn lattice_answer<P: Lattice>(slot: u8, item: &Item) -> Errno
     match &item.subject().label[slot as usize] {
         LabelValue::Range(label) => {
             let object = object_element(item.object(), slot);
-            label_answer::<P>(test, label, item.request(), object)
+            answer_to_label::<P>(test, label, item.request(), object)
         }
         LabelValue::Unset | LabelValue::Number(_) => Errno::Success,
     }
 }
 
 /// The answer to a subject of this label with that request. Few checks have one.
-fn label_answer<P: Lattice>(
+fn answer_to_label<P: Lattice>(
     test: Test,
     label: &RangeLabel,
     request: Option<&Request>,
@@ -86,7 +86,8 @@ fn labels_answer<P: Lattice>(
     subject: &Option<Elem>,
     object: &Option<Elem>,
 ) -> Errno
-    ensures { result ≡ spec.labels_answer P.lattice test label.now asked.now subject.now object.now }
+    ensures { result
+        ≡ spec.labels_answer P.lattice test label.now asked.now subject.now object.now }
 {
     let Some(subject) = subject else {
         return Errno::Success;

@@ -47,7 +47,8 @@ pub trait Policy: Send + Sync + Drop {
     /// Changes a setting. A policy without that setting returns ENOENT. If memory runs out, the policy is unchanged.
     fn change(&mut self, alloc: Global, change: &Change) -> Result<Changed, AllocError>
         requires { IsChange change.now }
-        ensures ok { IfOk result (λ changed. (changed, spec self.new) ≡ change_of (spec self.old) change.now) }
+        ensures ok { IfOk result (λ changed.
+            (changed, spec self.new) ≡ change_of (spec self.old) change.now) }
         ensures err { OnErr result (spec self.new ≡ spec self.old) };
 
     /// Puts every setting back to its value at load time.

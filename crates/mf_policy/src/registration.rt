@@ -18,7 +18,8 @@ pub struct Registration {
 impl Default for Registration {
     ghost use Rattle.mf_errno.specs.declared.module.Module.TheVariants as modules;
 
-    ghost is_default = { λ value. value ≡ record { «module» = modules.Biba; slot = None; fixed = false } };
+    ghost is_default = { λ value.
+        value ≡ record { «module» = modules.Biba; slot = None; fixed = false } };
 
     fn default() -> Registration {
         Registration {

@@ -77,7 +77,8 @@ pub(crate) fn answer_of_revocation(change: &Change) -> Changed
 
 /// Changes a setting of mac_biba's policy, which tests transfers or doesn't.
 pub fn change_revocation(revocation: &mut bool, change: &Change) -> Changed
-    ensures { (result, means.Biba revocation.new) ≡ spec.change_of (means.Biba revocation.old) change.now }
+    ensures { (result, means.Biba revocation.new)
+        ≡ spec.change_of (means.Biba revocation.old) change.now }
 {
     if let Change::Revocation(enabled) = change {
         *revocation = *enabled;
@@ -87,7 +88,8 @@ pub fn change_revocation(revocation: &mut bool, change: &Change) -> Changed
 
 /// What mac_bsdextended's policy with these rules would answer to a change.
 pub(crate) fn answer_of_rules(rules: &RuleList, change: &Change) -> Changed
-    ensures { (first : _) → result ≡ (spec.change_of (means.Bsdextended rules.now first) change.now).0 }
+    ensures { (first : _)
+        → result ≡ (spec.change_of (means.Bsdextended rules.now first) change.now).0 }
 {
     match change {
         Change::FirstMatch(_) | Change::RuleSet(..) => Changed::done(),
@@ -111,8 +113,11 @@ pub fn change_rules(
     change: &Change,
 ) -> Result<Changed, AllocError>
     requires { IsChange change.now }
-    ensures ok { IfOk result (λ changed. (changed, means.Bsdextended rules.new first_match.new) ≡ spec.change_of (means.Bsdextended rules.old first_match.old) change.now) }
-    ensures err { OnErr result (means.Bsdextended rules.new first_match.new ≡ means.Bsdextended rules.old first_match.old) }
+    ensures ok { IfOk result (λ changed.
+        (changed, means.Bsdextended rules.new first_match.new)
+        ≡ spec.change_of (means.Bsdextended rules.old first_match.old) change.now) }
+    ensures err { OnErr result (means.Bsdextended rules.new first_match.new
+        ≡ means.Bsdextended rules.old first_match.old) }
 {
     match change {
         Change::FirstMatch(enabled) => {
@@ -143,7 +148,9 @@ pub fn change_see(
     suser: &mut bool,
     change: &Change,
 ) -> Changed
-    ensures { (result, means.Seeotheruids primarygroup.new specific.new gid.new suser.new) ≡ spec.change_of (means.Seeotheruids primarygroup.old specific.old gid.old suser.old) change.now }
+    ensures { (result, means.Seeotheruids primarygroup.new specific.new gid.new suser.new)
+        ≡ spec.change_of (means.Seeotheruids primarygroup.old specific.old gid.old suser.old)
+        change.now }
 {
     if let Change::See(
         Spec::Seeotheruids {
@@ -164,7 +171,8 @@ pub fn change_see(
 
 /// What mac_seeotheruids's policy would answer to a change.
 pub(crate) fn answer_of_see(change: &Change) -> Changed
-    ensures { (primarygroup specific gid suser : _) → result ≡ (spec.change_of (means.Seeotheruids primarygroup specific gid suser) change.now).0 }
+    ensures { (primarygroup specific gid suser : _) → result
+        ≡ (spec.change_of (means.Seeotheruids primarygroup specific gid suser) change.now).0 }
 {
     match change {
         Change::See(Spec::Seeotheruids { .. }) => Changed::done(),
@@ -180,7 +188,8 @@ pub fn change_portacl(
     autoport: &mut bool,
     change: &Change,
 ) -> Changed
-    ensures { (result, means.Portacl rules.new port_high.new suser.new autoport.new) ≡ spec.change_of (means.Portacl rules.old port_high.old suser.old autoport.old) change.now }
+    ensures { (result, means.Portacl rules.new port_high.new suser.new autoport.new)
+        ≡ spec.change_of (means.Portacl rules.old port_high.old suser.old autoport.old) change.now }
 {
     if let Change::Port(
         Spec::Portacl {
@@ -201,7 +210,8 @@ pub fn change_portacl(
 
 /// What mac_portacl's policy would answer to a change.
 pub(crate) fn answer_of_portacl(change: &Change) -> Changed
-    ensures { (rules port_high suser autoport : _) → result ≡ (spec.change_of (means.Portacl rules port_high suser autoport) change.now).0 }
+    ensures { (rules port_high suser autoport : _) → result
+        ≡ (spec.change_of (means.Portacl rules port_high suser autoport) change.now).0 }
 {
     match change {
         Change::Port(Spec::Portacl { .. }) => Changed::done(),

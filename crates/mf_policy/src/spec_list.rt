@@ -85,7 +85,8 @@ impl SpecList {
 
     /// The listed module that holds the slot.
     pub fn holder(&self, slot: u8) -> Option<Module>
-        ensures { result ≡ option_map (λ entry. entry.0.«module») (find (holds_slot slot) self.now) }
+        ensures { result
+            ≡ option_map (λ entry. entry.0.«module») (find (holds_slot slot) self.now) }
     {
         holder_in(&self.entries, slot)
     }
@@ -94,7 +95,8 @@ impl SpecList {
     pub fn put(&mut self, place: usize, spec: Spec)
         requires { place < length self.old }
         ensures len { length self.new ≡ length self.old }
-        ensures entries { (other : Entry) → self.new ≡ slice_set self.old place ((slice_index_or self.old place other).0, spec) }
+        ensures entries { (other : Entry) → self.new
+            ≡ slice_set self.old place ((slice_index_or self.old place other).0, spec) }
     {
         self.entries[place].1 = spec;
     }
@@ -118,7 +120,8 @@ impl SpecList {
         change: &Change,
     ) -> Result<Changed, AllocError>
         requires { IsChange change.now }
-        ensures ok { IfOk result (λ changed. (changed, self.new) ≡ change_in «module» change.now self.old) }
+        ensures ok { IfOk result (λ changed.
+            (changed, self.new) ≡ change_in «module» change.now self.old) }
         ensures err { OnErr result (self.new ≡ self.old) }
     {
         match self.find(module) {
@@ -231,7 +234,8 @@ fn place_in(entries: &[(Registration, Spec)], module: Module) -> Option<usize>
 /// The place of a new entry: the front of the static list, or of the dynamic one.
 fn place_for(entries: &[(Registration, Spec)], fixed: bool) -> usize
     ensures within { result ≤ length entries.now }
-    ensures place { (entry : Entry) → entry.0.fixed ≡ fixed → insert entries.now result entry ≡ with_newest entry entries.now }
+    ensures place { (entry : Entry) → entry.0.fixed ≡ fixed
+        → insert entries.now result entry ≡ with_newest entry entries.now }
 {
     if fixed { 0 } else { static_len(entries) }
 }

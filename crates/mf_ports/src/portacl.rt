@@ -44,7 +44,9 @@ impl Portacl {
 
     /// Whether the subject may bind a socket to the port of that protocol, TCP or else UDP.
     fn may_bind(&self, cred: &Cred, port: (bool, u16)) -> bool
-        ensures { result ≡ spec.may_bind self.now.rules self.now.port_high self.now.suser self.now.autoport cred.now port }
+        ensures { result
+            ≡ spec.may_bind self.now.rules self.now.port_high self.now.suser self.now.autoport
+            cred.now port }
     {
         port.1 as u32 > self.port_high
             || (self.autoport && port.1 == 0)
@@ -54,7 +56,8 @@ impl Portacl {
 }
 
 impl Policy for Portacl {
-    ghost spec = { λ policy. means.Portacl policy.rules policy.port_high policy.suser policy.autoport };
+    ghost spec = { λ policy.
+        means.Portacl policy.rules policy.port_high policy.suser policy.autoport };
 
     fn module(&self) -> Module {
         Module::Portacl
@@ -125,7 +128,8 @@ impl Policy for Portacl {
 
 /// Whether a rule gives the subject the port.
 fn is_given(rules: &[PortRule], cred: &Cred, port: (bool, u16)) -> bool
-    ensures { result ≡ list_any (λ rule. (if rule.tcp then port.0 else not port.0) && rule.port == port.1
+    ensures { result
+        ≡ list_any (λ rule. (if rule.tcp then port.0 else not port.0) && rule.port == port.1
         && (if rule.group then in_group cred.now rule.id else cred.now.uid == rule.id)) rules.now }
 {
     rules.iter().any(|rule| gives(rule, cred, port))
@@ -134,7 +138,8 @@ fn is_given(rules: &[PortRule], cred: &Cred, port: (bool, u16)) -> bool
 /// Whether the rule gives the subject the port.
 fn gives(rule: &PortRule, cred: &Cred, port: (bool, u16)) -> bool
     ensures { result ≡ ((if rule.now.tcp then port.0 else not port.0) && rule.now.port == port.1
-        && (if rule.now.group then in_group cred.now rule.now.id else cred.now.uid == rule.now.id)) }
+        && (if rule.now.group then in_group cred.now rule.now.id
+        else cred.now.uid == rule.now.id)) }
 {
     is_for(port, rule) && is_held_by(cred, rule)
 }
@@ -148,7 +153,8 @@ fn is_for(port: (bool, u16), rule: &PortRule) -> bool
 
 /// Whether the rule is for the subject, by one of its groups or by its effective uid.
 fn is_held_by(cred: &Cred, rule: &PortRule) -> bool
-    ensures { result ≡ (if rule.now.group then in_group cred.now rule.now.id else cred.now.uid == rule.now.id) }
+    ensures { result
+        ≡ (if rule.now.group then in_group cred.now rule.now.id else cred.now.uid == rule.now.id) }
 {
     if rule.group {
         cred.in_group(rule.id)

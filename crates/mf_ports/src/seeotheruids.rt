@@ -38,7 +38,9 @@ impl Seeotheruids {
 
     /// Whether the subject sees a process with that real uid and that first group.
     fn may_see(&self, subject: &Cred, process: &FileView) -> bool
-        ensures { result ≡ spec.may_see self.now.primarygroup self.now.specific self.now.gid self.now.suser subject.now process.now }
+        ensures { result
+            ≡ spec.may_see self.now.primarygroup self.now.specific self.now.gid self.now.suser
+            subject.now process.now }
     {
         subject.ruid == process.uid
             || (self.primarygroup && first_group(subject) == process.gid)
@@ -48,7 +50,8 @@ impl Seeotheruids {
 }
 
 impl Policy for Seeotheruids {
-    ghost spec = { λ policy. means.Seeotheruids policy.primarygroup policy.specific policy.gid policy.suser };
+    ghost spec = { λ policy.
+        means.Seeotheruids policy.primarygroup policy.specific policy.gid policy.suser };
 
     fn module(&self) -> Module {
         Module::Seeotheruids

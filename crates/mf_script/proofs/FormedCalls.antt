@@ -28,7 +28,7 @@ abbrev HasName : List ℕ → Call → Type 0
 HasName name c = first_word (call_pieces c) ≡ name
 
 -- a reader of calls of that name, which are well formed where their words are
-record AreFormed (name : List ℕ) (arguments : Arguments) : Type 0 where
+record AreCallsOf (name : List ℕ) (arguments : Arguments) : Type 0 where
   formed : (ws : Words) → AreWords ws → Yields (λ read. IsFormedCall read.0) (arguments ws)
   named : (ws : Words) → Yields (λ read. HasName name read.0) (arguments ws)
 
@@ -36,18 +36,18 @@ record AreFormed (name : List ℕ) (arguments : Arguments) : Type 0 where
 abbrev Reads : {A : Type 0} → (A → Type 0) → (List ℕ → Read A) → Type 0
 Reads P read = (w : List ℕ) → IsWord w → Yields P (read w)
 
-bare_formed : {name : List ℕ} (call : Call) → HasName name call → IsFormedCall call → AreFormed name (bare call)
+bare_formed : {name : List ℕ} (call : Call) → HasName name call → IsFormedCall call → AreCallsOf name (bare call)
 bare_formed call named formed = record { formed = λ ws are. done formed; named = λ ws. done named }
 
 one_formed : {A : Type 0} {name : List ℕ} (P : A → Type 0) (first : List ℕ → Read A) (call : A → Call)
-    → Reads P first → ((x : A) → HasName name (call x)) → ((x : A) → P x → IsFormedCall (call x)) → AreFormed name (one first call)
+    → Reads P first → ((x : A) → HasName name (call x)) → ((x : A) → P x → IsFormedCall (call x)) → AreCallsOf name (one first call)
 one_formed P first call each named so = record {
   formed = λ ws are. chain _ _ (by_word first each ws are) (λ x ok. done (so x.0 ok.0));
   named = λ ws. skip _ _ (λ x. done (named x.0));
 }
 
 two_formed : {A B : Type 0} {name : List ℕ} (P : A → Type 0) (Q : B → Type 0) (first : List ℕ → Read A) (second : List ℕ → Read B) (call : A → B → Call)
-    → Reads P first → Reads Q second → ((x : A) (y : B) → HasName name (call x y)) → ((x : A) (y : B) → P x → Q y → IsFormedCall (call x y)) → AreFormed name (two first second call)
+    → Reads P first → Reads Q second → ((x : A) (y : B) → HasName name (call x y)) → ((x : A) (y : B) → P x → Q y → IsFormedCall (call x y)) → AreCallsOf name (two first second call)
 two_formed P Q first second call each each_second named so = record {
   formed = λ ws are.
       chain _ _ (by_word first each ws are) (λ x x_ok. chain _ _ (by_word second each_second x.1 x_ok.1) (λ y y_ok. done (so x.0 y.0 x_ok.0 y_ok.0)));
@@ -56,7 +56,7 @@ two_formed P Q first second call each each_second named so = record {
 
 three_formed : {A B C : Type 0} {name : List ℕ} (P : A → Type 0) (Q : B → Type 0) (R : C → Type 0) (first : List ℕ → Read A) (second : List ℕ → Read B) (third : List ℕ → Read C) (call : A → B → C → Call)
     → Reads P first → Reads Q second → Reads R third → ((x : A) (y : B) (z : C) → HasName name (call x y z)) → ((x : A) (y : B) (z : C) → P x → Q y → R z → IsFormedCall (call x y z))
-    → AreFormed name (three first second third call)
+    → AreCallsOf name (three first second third call)
 three_formed P Q R first second third call each each_second each_third named so = record {
   formed = λ ws are.
       chain _ _ (by_word first each ws are) (λ x x_ok.
@@ -96,7 +96,7 @@ port_read w word = port_formed w
 -- a table of such readers, where a word stands for a call of that name
 EachFormed : (List ℕ → List ℕ) → List (List ℕ × Arguments) → Type 0
 EachFormed name [] = Unit {0}
-EachFormed name (entry ∷ table) = AreFormed (name entry.0) entry.1 × EachFormed name table
+EachFormed name (entry ∷ table) = AreCallsOf (name entry.0) entry.1 × EachFormed name table
 
 record AllFormed (name : List ℕ → List ℕ) (table : List (List ℕ × Arguments)) : Type 0 where
   each : EachFormed name table
@@ -106,7 +106,7 @@ unfolding EachFormed
 none_left = record { each = tt }
 
 infixr 5 ◌&◌
-◌&◌ : {name : List ℕ → List ℕ} {entry : List ℕ × Arguments} {table : List (List ℕ × Arguments)} → AreFormed (name entry.0) entry.1 → AllFormed name table → AllFormed name (entry ∷ table)
+◌&◌ : {name : List ℕ → List ℕ} {entry : List ℕ × Arguments} {table : List (List ℕ × Arguments)} → AreCallsOf (name entry.0) entry.1 → AllFormed name table → AllFormed name (entry ∷ table)
 unfolding EachFormed
 formed & rest = record { each = (formed, rest.each) }
 
@@ -114,26 +114,26 @@ module _ (name : List ℕ → List ℕ) (word : List ℕ) where
   abbrev found_in : List (List ℕ × Arguments) → Arguments
   found_in table ws = by_option (entry_named word table) (fails UnknownWord) (λ arguments. arguments ws)
 
-  found_formed : (table : List (List ℕ × Arguments)) → EachFormed name table → AreFormed (name word) (found_in table)
+  found_formed : (table : List (List ℕ × Arguments)) → EachFormed name table → AreCallsOf (name word) (found_in table)
   unfolding EachFormed
   found_formed [] each = record { formed = λ ws are. refused; named = λ ws. refused }
   found_formed (entry ∷ table) each = by_test (bytes_eq word entry.0) (bytes_eq-Decides word entry.0).0 (found_formed table each.1) where
-    by_test : (same : Bool) → (same ≡ true → word ≡ entry.0) → AreFormed (name word) (found_in table)
-        → AreFormed (name word) (λ ws. by_option (if same then Some entry.1 else entry_named word table) (fails UnknownWord) (λ arguments. arguments ws))
-    by_test true same further = subst (λ (word : List ℕ). AreFormed (name word) entry.1) (sym (same refl)) each.0
+    by_test : (same : Bool) → (same ≡ true → word ≡ entry.0) → AreCallsOf (name word) (found_in table)
+        → AreCallsOf (name word) (λ ws. by_option (if same then Some entry.1 else entry_named word table) (fails UnknownWord) (λ arguments. arguments ws))
+    by_test true same further = subst (λ (word : List ℕ). AreCallsOf (name word) entry.1) (sym (same refl)) each.0
     by_test false other further = further
 
 number_read : Reads (λ n. n < MAX_RULES) rule_number_of
 number_read w word = rule_number_formed w
 
-add_formed : AreFormed (codes "ugidfw") add_rule
+add_formed : AreCallsOf (codes "ugidfw") add_rule
 unfolding add_rule
 add_formed = record {
   formed = λ ws are. chain _ _ (rule_formed ws) (λ rule ok. done ok);
   named = λ ws. skip _ _ (λ rule. done refl);
 }
 
-set_formed : AreFormed (codes "ugidfw") set_rule
+set_formed : AreCallsOf (codes "ugidfw") set_rule
 unfolding set_rule
 set_formed = record {
   formed = λ ws are.
@@ -149,13 +149,13 @@ ugidfw_calls_formed =
     & one_formed _ _ call.UgidfwRemove number_read (λ n. refl) (λ n ok. ok)
     & none_left
 
-ugidfw_formed : AreFormed (codes "ugidfw") ugidfw
+ugidfw_formed : AreCallsOf (codes "ugidfw") ugidfw
 unfolding ugidfw call_in
 ugidfw_formed = record {
   formed = λ ws are. by_words ws are;
   named = λ ws. by_names ws;
 } where
-  of : (name : List ℕ) → AreFormed (codes "ugidfw") (call_in ugidfw_calls name)
+  of : (name : List ℕ) → AreCallsOf (codes "ugidfw") (call_in ugidfw_calls name)
   of name = found_formed (λ word. codes "ugidfw") name ugidfw_calls ugidfw_calls_formed.each
 
   by_words : (ws : Words) → AreWords ws → Yields (λ read. IsFormedCall read.0) (ugidfw ws)
@@ -210,7 +210,7 @@ all_formed =
     & ugidfw_formed
     & none_left
 
-found_call : (name : List ℕ) → AreFormed name (call_in calls name)
+found_call : (name : List ℕ) → AreCallsOf name (call_in calls name)
 unfolding call_in
 found_call name = found_formed (λ word. word) name calls all_formed.each
 

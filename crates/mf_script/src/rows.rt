@@ -184,7 +184,8 @@ fn end_row(script: &mut Script, place: &mut Place, words: &mut Words) -> Result<
     ensures { (t : Task) (lists : ℕ) → place.old ≡ places.Task t lists →
         Gives {Y = Reading} (λ u. (script.new, place.new)) result
         (nothing_behind
-        (record (script.old) { tasks = script.old.tasks ++ t ∷ [] }, places.Tasks lists) words.old) }
+        (record (script.old) { tasks = script.old.tasks ++ t ∷ [] }, places.Tasks lists)
+        words.old) }
 {
     parts::no_more(words)?;
     close_task(script, place)
@@ -297,7 +298,7 @@ fn go_to<T: Drop>(place: &mut T, next: Result<T, Refusal>) -> Result<(), Refusal
 }
 
 /// Takes a line at this place, by its first word, and goes on to the place of the next line. Most are lines inside a task, which leave
-/// the place where it is: they make none, and so need no room for one.
+/// the place where it is: for them no place is made.
 #[tactic(auto, unfolding(crate::specs::Grammar::row_in, crate::specs::Grammar::in_task))]
 fn row(
     alloc: Global,

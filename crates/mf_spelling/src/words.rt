@@ -70,7 +70,8 @@ pub fn push_rule(rule: &Rule, out: &mut String) -> Result<(), AllocError>
 
 /// A setting and its value, with an equals sign between them.
 pub fn push_setting(name: &str, value: &str, out: &mut String) -> Result<(), AllocError>
-    ensures ok { OnOk result (Adds out.old out.new (byte " " ∷ (name.now ++ byte "=" ∷ value.now))) }
+    ensures ok { OnOk result
+        (Adds out.old out.new (byte " " ∷ (name.now ++ byte "=" ∷ value.now))) }
     ensures err { OnErr result (Extends (string_bytes out.old) (string_bytes out.new)) }
 {
     push_word(name, out)?;

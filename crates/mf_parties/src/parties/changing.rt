@@ -57,7 +57,8 @@ impl Parties {
     pub fn deliver(&mut self, alloc: Global, id: PartyId, bytes: &[u8]) -> Result<(), AllocError>
         ensures { OnOk result (self.new
             ≡ changes.with_change
-            (changes.with_what (changes.with_messages (changes.with_message bytes.now))) self.old id) }
+            (changes.with_what (changes.with_messages (changes.with_message bytes.now)))
+            self.old id) }
     {
         let message = Text::copy_of(alloc, bytes)?;
         self.grow_at(id, Growth::Message(message))
@@ -67,7 +68,8 @@ impl Parties {
     pub fn open(&mut self, id: PartyId, file: OpenFile) -> Result<(), AllocError>
         requires { IsLive is_regular self.old file.file }
         ensures { OnOk result (self.new
-            ≡ changes.with_change (changes.with_what (fds.with_fds (fds.opened file))) self.old id) }
+            ≡ changes.with_change (changes.with_what (fds.with_fds (fds.opened file)))
+            self.old id) }
     {
         self.grow_at(id, Growth::Open(file))
     }
