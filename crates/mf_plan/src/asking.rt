@@ -111,7 +111,8 @@ fn ask_on_process(
 ) -> Result<Option<Id>, Errno>
     requires task { IsName task.now }
     requires formed { IsFormedCall call.now }
-    requires kind { kind_of_place (about_of state.now task.now caller call.now).place ≡ Some kinds.Process }
+    requires kind { kind_of_place (about_of state.now task.now caller call.now).place
+        ≡ Some kinds.Process }
     requires empty { checks.old ≡ [] }
     requires unasked { asked.old ≡ None }
     requires asking { outlines.IsAsking state.now.objects caller checks.old }
@@ -144,7 +145,8 @@ fn ask_on_file(
     asked: &mut Option<Request>,
 ) -> Result<Option<Id>, Errno>
     requires formed { IsFormedCall call.now }
-    requires kind { kind_of_place (about_of state.now _task.now caller call.now).place ≡ Some kinds.Vnode }
+    requires kind { kind_of_place (about_of state.now _task.now caller call.now).place
+        ≡ Some kinds.Vnode }
     requires empty { checks.old ≡ [] }
     requires unasked { asked.old ≡ None }
     requires asking { outlines.IsAsking state.now.objects caller checks.old }
@@ -189,7 +191,8 @@ fn ask_on_pipe(
     asked: &mut Option<Request>,
 ) -> Result<Option<Id>, Errno>
     requires formed { IsFormedCall call.now }
-    requires kind { kind_of_place (about_of state.now _task.now caller call.now).place ≡ Some kinds.Pipe }
+    requires kind { kind_of_place (about_of state.now _task.now caller call.now).place
+        ≡ Some kinds.Pipe }
     requires empty { checks.old ≡ [] }
     requires unasked { asked.old ≡ None }
     requires asking { outlines.IsAsking state.now.objects caller checks.old }
@@ -224,7 +227,8 @@ fn ask_on_socket(
     asked: &mut Option<Request>,
 ) -> Result<Option<Id>, Errno>
     requires formed { IsFormedCall call.now }
-    requires kind { kind_of_place (about_of state.now _task.now caller call.now).place ≡ Some kinds.Socket }
+    requires kind { kind_of_place (about_of state.now _task.now caller call.now).place
+        ≡ Some kinds.Socket }
     requires empty { checks.old ≡ [] }
     requires unasked { asked.old ≡ None }
     requires asking { outlines.IsAsking state.now.objects caller checks.old }

@@ -82,7 +82,8 @@ pub fn descriptor_of_call(state: &State, task: &str, child: Option<&str>, call: 
     requires task { IsName task.now }
     requires child { IfSome (option_copied child) IsName }
     ensures value { result ≡ option_and_then
-        (λ me. found.descriptor_at state.now me (rows.about_of state.now task.now me call.now).place)
+        (λ me. found.descriptor_at state.now me
+        (rows.about_of state.now task.now me call.now).place)
         (process_named state.now.objects (caller_name task.now (option_copied child.entry))) }
     ensures file { IfSome result (λ fd. IsLive is_regular state.now.objects fd.file) }
 {
@@ -100,7 +101,8 @@ fn descriptor_of_caller(state: &State, task: &str, child: Option<&str>, call: &C
     requires task { IsName task.now }
     requires child { IfSome (option_copied child) IsName }
     ensures value { result ≡ option_and_then
-        (λ me. found.descriptor_at state.now me (rows.about_of state.now task.now me call.now).place)
+        (λ me. found.descriptor_at state.now me
+        (rows.about_of state.now task.now me call.now).place)
         (process_named state.now.objects (caller_name task.now (option_copied child.entry))) }
     ensures file { IfSome result (λ fd. IsLive is_regular state.now.objects fd.file) }
 {

@@ -53,9 +53,11 @@ impl Model for Plan {
 
     ghost Value = { Plan };
 
-    ghost view = { λ p. record { items = items_with p.subjects (take p.count p.checks); tail = p.tail } };
+    ghost view = { λ p.
+        record { items = items_with p.subjects (take p.count p.checks); tail = p.tail } };
 
-    ghost invariant = { λ p. (length p.checks ≡ MOST_CHECKS) × (p.count ≤ MOST_CHECKS) × HaveSubjects p.subjects (take p.count p.checks) };
+    ghost invariant = { λ p. (length p.checks ≡ MOST_CHECKS) × (p.count ≤ MOST_CHECKS)
+        × HaveSubjects p.subjects (take p.count p.checks) };
 }
 
 impl Plan {

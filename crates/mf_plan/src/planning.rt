@@ -58,7 +58,8 @@ impl Plan {
         self.fill(state, outline);
     }
 
-    /// Whether this is the plan of the call in the present state. The outline says who calls, and where it is what the call is about.
+    /// Whether this is the plan of the call in the present state. The outline becomes that of the call; it says who calls, and where
+    /// this is the plan, what the call is about.
     pub fn is_of(
         &self,
         state: &State,
@@ -74,6 +75,9 @@ impl Plan {
             ↔ (self.now ≡ spec.plan_of state.now task.now (option_copied child.entry) call.now) }
         ensures found { self.now.tail ≡ Do → IsTrue result
             → AreFound state.now task.now (option_copied child.entry) call.now outline.new.found }
+        ensures outline { outlines.outlined state.now.objects outline.new
+            ≡ spec.plan_in state.now
+            (spec.call_row state.now task.now (option_copied child.entry) call.now) }
         ensures caller { outline.new.found.caller
             ≡ process_named state.now.objects (caller_name task.now (option_copied child.entry)) }
     {

@@ -130,7 +130,8 @@ fn judge(
 ) -> Result<Option<Id>, Errno>
     requires lives { IsSome (live_at state.now.objects caller) }
     ensures row { ended_by [] result ≡ end_in (row.through
-        (way_to state.now caller (Setting tunable «module» change.now)) (set state.now payload.None)) }
+        (way_to state.now caller (Setting tunable «module» change.now))
+        (set state.now payload.None)) }
     ensures target { IfOk result (λ target. target ≡ None) }
 {
     if !state.objects.cred(caller).is_root() || tunable {

@@ -45,7 +45,14 @@ impl CheckView {
     /// The check as policies see it, with its subject.
     pub(crate) fn item<'a>(&'a self, subject: &'a SubjectView) -> Item<'a>
         ensures { result
-            ≡ record { op = self.now.op; subject = subject.now; object = self.now.object; request = self.now.request; privilege = self.now.privilege; port = self.now.port } }
+            ≡ record {
+              op = self.now.op;
+              subject = subject.now;
+              object = self.now.object;
+              request = self.now.request;
+              privilege = self.now.privilege;
+              port = self.now.port;
+            } }
     {
         Item::new(
             self.op,
