@@ -6,6 +6,7 @@ use Rattle.mf_calls.specs.declared.script.Line.{Line}
 use Rattle.mf_calls.specs.declared.script.Script.{Script}
 use Rattle.mf_calls.specs.Tasks.{is_change, name_of}
 use Rattle.mf_plan.specs.declared.found.Found.{Found}
+use Rattle.mf_plan.specs.declared.outline.Outline.{Outline}
 use Rattle.mf_plan.specs.Planned.{Plan}
 use Rattle.mf_plan.specs.declared.plan.Tail.{Tail}
 use Rattle.mf_plan.specs.declared.plan.Tail.TheVariants.{Do, Refuse}
@@ -26,7 +27,7 @@ use Rattle.mf_perform.proofs.Observing.{observed_change}
 use Rattle.mf_core.specs.declared.history.History.{History}
 use Rattle.mf_core.specs.declared.progress.Turn.TheVariants as turns
 use Rattle.mf_core.specs.LegalHistory.{RunState, next_line, next_reply, next_state, turn_of}
-use Rattle.mf_core.specs.NextFound.{FoundAt, IsNextFound}
+use Rattle.mf_core.specs.NextFound.{FoundAt, IsNextFound, IsNextOutline, IsOutlineOf, OutlineAt}
 use Rattle.mf_core.specs.Next.{next_plan}
 use Rattle.mf_core.specs.Consistency.{IsConsistent}
 use Rattle.mf_core.specs.Relisted.{IsMade}
@@ -62,6 +63,9 @@ module _ (s : Script) (r : RunState) (t : ℕ) (line : Line) (next : next_line s
 
   pub found_next : (found : Found) → AreFound r.state (name_of s t) line.child line.call found → IsNextFound s r t found
   found_next found is = subst (λ (l : Option Line). FoundAt s r t l found) (sym next) is
+
+  pub outline_next : (outline : Outline) → IsOutlineOf s r t line outline → IsNextOutline s r t outline
+  outline_next outline is = subst (λ (l : Option Line). OutlineAt s r t l outline) (sym next) is
 
   module _ (plan : Plan) (planned : next_plan s r t ≡ Some plan) where
     plan_is : plan_of r.state (name_of s t) line.child line.call ≡ plan

@@ -11,14 +11,15 @@ use Rattle.mf_core.specs.declared.history.History.{History}
 use Rattle.mf_core.specs.Log.{Log}
 use Rattle.mf_core.specs.Progress.{progress_at, first_progress}
 use Rattle.mf_core.specs.Advances.{Advances}
-use Rattle.mf_core.specs.LegalHistory.{RunState, MayCome, run_after, next_line, opening_run, turn_of}
+use Rattle.mf_core.specs.LegalHistory.{RunState, MayCome, run_after, next_line, next_reply, opening_run, turn_of}
 use Rattle.mf_core.specs.WithEvent.{with_event}
 use Rattle.mf_policy.specs.Registration.{Entry}
 use Rattle.mf_plan.specs.declared.found.Found.{Found}
+use Rattle.mf_plan.specs.declared.outline.Outline.{Outline}
 use Rattle.mf_plan.specs.Planned.{Plan}
 use Rattle.mf_perform.specs.declared.verdict.Verdict.{Verdict}
 use Rattle.mf_perform.specs.Verdict.{verdict_of}
-use Rattle.mf_core.specs.NextFound.{IsNextFound}
+use Rattle.mf_core.specs.NextFound.{IsNextFound, IsNextOutline}
 use Rattle.mf_core.specs.Next.{next_plan}
 use Rattle.mf_core.specs.Consistency.{IsConsistent}
 use Rattle.mf_core.specs.RunView.{RunView}
@@ -61,11 +62,23 @@ module _ (k : CoreView) (v : RunView) (h : History) (is : record { script = v.sc
   plan_same t =
       ap (λ (m : RunState). next_plan k.script m t) run_state_here ∙ ap (λ (s : Script). next_plan s v.run t) script_here
 
+  pub reply_same : (t : ℕ) → next_reply k.script (run_state k) t ≡ next_reply v.script v.run t
+  reply_same t =
+      ap (λ (m : RunState). next_reply k.script m t) run_state_here ∙ ap (λ (s : Script). next_reply s v.run t) script_here
+
+  pub line_same : (t : ℕ) → next_line k.script (progress_of k) t ≡ next_line v.script v.run.progress t
+  line_same t =
+      ap (λ (m : RunState). next_line k.script m.progress t) run_state_here ∙ ap (λ (s : Script). next_line s v.run.progress t) script_here
+
   -- the verdict of the policies that are listed is that of the run's
   pub judged_here : (listed : List Entry) (plan : Plan) (verdict : Verdict) → verdict ≡ verdict_of listed plan → listed ≡ specs_of k
       → verdict ≡ verdict_of v.run.state.specs plan
   judged_here listed plan verdict judged same =
       judged ∙ ap (λ (es : List Entry). verdict_of es plan) (same ∙ ap (λ (r : RunState). r.state.specs) run_state_here)
+
+  pub outline_same : (t : ℕ) (outline : Outline) → IsNextOutline v.script v.run t outline → IsNextOutline k.script (run_state k) t outline
+  outline_same t outline is =
+      subst (λ (s : Script). IsNextOutline s (run_state k) t outline) (sym script_here) (subst (λ (m : RunState). IsNextOutline v.script m t outline) (sym run_state_here) is)
 
   pub found_same : (t : ℕ) (found : Found) → IsNextFound k.script (run_state k) t found → IsNextFound v.script v.run t found
   found_same t found is =

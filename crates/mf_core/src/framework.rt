@@ -6,12 +6,12 @@ ghost use Rattle.mf_policy.specs.Modules.{module_of};
 ghost use Rattle.mf_list.specs.Fresh.{IsFresh};
 ghost use Rattle.mf_calls.specs.declared.limits.TheConstants.{LINE_LIMIT};
 ghost use Rattle.mf_calls.specs.Tasks.{lines_of};
-ghost use Rattle.mf_calls.specs.WellFormed.{IsWellFormed};
+ghost use Rattle.mf_calls.specs.WellFormed.{IsFormedLine, IsWellFormed};
 ghost use Rattle.mf_perform.specs.Verdict as step;
 ghost use Rattle.mf_core.specs.declared.history.Event.TheVariants as event;
 ghost use Rattle.mf_core.specs.declared.progress.Turn.TheVariants as turn;
 ghost use Rattle.mf_core.specs.declared.progress.Phase.TheVariants as phase;
-ghost use Rattle.mf_core.specs.LegalHistory.{IsComplete, IsLegal};
+ghost use Rattle.mf_core.specs.LegalHistory.{IsComplete, IsLegal, next_line};
 ghost use Rattle.mf_core.specs.Next.{next_plan};
 ghost use Rattle.mf_core.specs.Opening.{booted_specs, boots_of};
 ghost use Rattle.mf_core.specs.Policies.{AreOf, static_of};
@@ -26,7 +26,7 @@ use crate::booting::boot;
 use crate::history::{BootList, Event, EventList, History};
 use crate::progress::Turn;
 use crate::run::Run;
-use mf_calls::Script;
+use mf_calls::{Line, Script};
 use mf_list::{Catalogue, Fixed, Listed, PolicyList};
 use mf_perform::{Verdict, verdict_of};
 use mf_plan::{Outline, Plan, State};
@@ -102,6 +102,23 @@ impl<'s> Core<'s> {
             run,
             history: History { boots, events },
         })
+    }
+
+    /// The script.
+    pub fn script(&self) -> &'s Script
+        ensures { result.now ≡ self.now.script }
+    {
+        self.run.script()
+    }
+
+    /// The line of the call that the task has entered for.
+    pub fn line(&self, task: u32) -> &'s Line
+        requires task { task < length self.now.script.tasks }
+        requires turn { turn_at self.now task ≡ turn.Entered }
+        ensures value { next_line self.now.script (progress_of self.now) task ≡ Some result.now }
+        ensures formed { IsFormedLine result.now }
+    {
+        self.run.line(task)
     }
 
     /// What the task may do next. Tasks count from 0.

@@ -12,7 +12,7 @@ ghost use Rattle.mf_core.specs.declared.history.Event.TheVariants as event;
 ghost use Rattle.mf_core.specs.declared.progress.Turn.TheVariants as turn;
 ghost use Rattle.mf_core.specs.LegalHistory.{next_line, next_reply, opening_run, turn_of, MayCome};
 ghost use Rattle.mf_core.specs.RunView.{run_on};
-ghost use Rattle.mf_core.specs.NextFound.{IsNextFound};
+ghost use Rattle.mf_core.specs.NextFound.{IsNextFound, IsNextOutline};
 ghost use Rattle.mf_core.specs.Next.{next_plan};
 ghost use Rattle.mf_policy.specs.Registration.{given_after};
 ghost use Rattle.mf_core.specs.Opening.{booted_specs};
@@ -46,7 +46,10 @@ impl<'s> Model for Run<'s> {
 
     ghost Value = { RunView };
 
-    ghost view = { λ r. record { script = r.script.now; run = record { state = r.state; progress = r.progress } } };
+    ghost view = { λ r. record {
+      script = r.script.now;
+      run = record { state = r.state; progress = r.progress };
+    } };
 
     ghost invariant = { λ r. IsReached r.script.now
         (record { state = r.state; progress = r.progress }) };
@@ -89,6 +92,13 @@ impl<'s> Run<'s> {
         }
     }
 
+    /// The script.
+    pub(crate) fn script(&self) -> &'s Script
+        ensures { result.now ≡ self.now.script }
+    {
+        self.script
+    }
+
     /// The task's next line.
     pub(crate) fn line(&self, task: u32) -> &'s Line
         requires task { task < length self.now.script.tasks }
@@ -122,6 +132,7 @@ impl<'s> Run<'s> {
         ensures is { IsTrue result ↔ (next_plan self.now.script self.now.run task ≡ Some plan.now) }
         ensures found { plan.now.tail ≡ Do → IsTrue result
             → IsNextFound self.now.script self.now.run task outline.new.found }
+        ensures outline { IsNextOutline self.now.script self.now.run task outline.new }
     {
         let line = self.line(task);
         let name = self.script.name_of(task);
@@ -145,7 +156,8 @@ impl<'s> Run<'s> {
         requires verdict { verdict.now ≡ verdict_of self.now.run.state.specs plan.now }
         ensures value { IfOk result (λ reply. next_reply self.now.script self.now.run task
             ≡ Some reply) }
-        ensures memory { is_ok (reply_to plan.now verdict.now.denied payload.None) ≡ false → IsOk result }
+        ensures memory { is_ok (reply_to plan.now verdict.now.denied payload.None) ≡ false
+            → IsOk result }
     {
         if let Some(refusal) = refusal_of(plan, verdict) {
             return KeptReply::new(alloc, refusal);

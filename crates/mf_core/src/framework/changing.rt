@@ -1,23 +1,27 @@
 //! The calls of a core that do the call of a line: commits of entries, and changes of the policies.
-ghost use Rattle.std.specs.Prelude.{◌≡◌, ◌+◌, ◌<◌, ◌↔◌, length, false, IfOk, IsOk, IsTrue, OnErr, Some};
+ghost use Rattle.std.specs.Prelude.{◌≡◌, ◌+◌, ◌<◌, ◌↔◌, length, false, true, IfOk, IsOk, IsTrue, OnErr, OnOk, Some};
 ghost use Rattle.mf_plan.specs.declared.plan.Tail.TheVariants.{Do};
 ghost use Rattle.mf_plan.specs.declared.reply.Payload.TheVariants as payload;
 ghost use Rattle.mf_plan.specs.declared.reply.Reply.{Reply};
 ghost use Rattle.mf_perform.specs.Refused.{is_ok};
 ghost use Rattle.mf_perform.specs.Verdict.{verdict_of};
 ghost use Rattle.mf_perform.specs.Reply.{reply_to};
-ghost use Rattle.mf_core.specs.LegalHistory.{next_reply};
-ghost use Rattle.mf_core.specs.NextFound.{IsNextFound};
+ghost use Rattle.mf_core.specs.declared.history.Event.TheVariants as event;
+ghost use Rattle.mf_core.specs.declared.progress.Commit.TheVariants as commit;
+ghost use Rattle.mf_core.specs.LegalHistory.{next_number, next_reply};
+ghost use Rattle.mf_core.specs.Next.{next_plan};
+ghost use Rattle.mf_core.specs.NextFound.{IsNextFound, IsNextOutline};
 ghost use Rattle.mf_core.specs.declared.progress.Turn.TheVariants as turn;
 ghost use Rattle.mf_core.specs.Policies.{AreOf, StaysWhileWaiting};
-ghost use Rattle.mf_core.specs.CoreView.{run_state, specs_of, progress_of, turn_at, open_of, done_of, lines_changed, Changes, Commits, IsCurrent, AdvancesBy, AdvancesOn};
+ghost use Rattle.mf_core.specs.CoreView.{with_next, run_state, specs_of, progress_of, turn_at, open_of, done_of, lines_changed, Changes, Commits, IsCurrent, AdvancesBy, AdvancesOn};
 
 use super::Core;
 use crate::history::Event;
+use crate::kept_reply::KeptReply;
 use crate::progress::{ChangeOutcome, Commit};
 use mf_list::{Catalogue, Fixed, Listed, PolicyList};
 use mf_perform::Verdict;
-use mf_plan::{Outline, Plan};
+use mf_plan::{Found, Outline, Plan};
 use mf_policy::Policy;
 use std::alloc::{AllocError, Global};
 
@@ -44,23 +48,21 @@ impl<'s> Core<'s> {
         ensures entries { open_of self.new ≡ open_of self.old }
         ensures lines { done_of self.new ≡ done_of self.old }
         ensures err { OnErr result (self.new ≡ self.old) }
-        ensures memory { is_ok (reply_to plan.now verdict.now.denied payload.None) ≡ false → IsOk result }
+        ensures memory { is_ok (reply_to plan.now verdict.now.denied payload.None) ≡ false
+            → IsOk result }
     {
         let mut outline = Outline::new();
         if !self.is_current(task, list, plan, &mut outline) {
             return Ok(Commit::Stale);
         }
-        let found = &outline.found;
-        let reply = self.run.reply(alloc, task, plan, found, verdict)?;
-        let number = self.run.lines(task) + 1;
-        self.run.commit(alloc, task, number, found, &reply)?;
-        self.history.events.push(Event::Done(task, number, reply));
+        let reply = self.reply(alloc, task, plan, &outline.found, verdict)?;
+        self.commit(alloc, task, &outline.found, reply)?;
         Ok(Commit::Done)
     }
 
     /// Whether the plan is that of the task's call, and the lists have the policies and specs of the core's state. Then the outline
     /// becomes that of the call, with what it is about.
-    fn is_current<P: Policy>(
+    pub fn is_current<P: Policy>(
         &self,
         task: u32,
         list: &Listed<'_, P>,
@@ -72,11 +74,70 @@ impl<'s> Core<'s> {
         ensures is { IsTrue result ↔ IsCurrent self.now task list.now plan.now }
         ensures found { plan.now.tail ≡ Do → IsTrue result
             → IsNextFound self.now.script (run_state self.now) task outline.new.found }
+        ensures outline { IsTrue result
+            → IsNextOutline self.now.script (run_state self.now) task outline.new }
     {
         if !list.same_specs(&self.run.state().specs) {
             return false;
         }
         self.run.has_plan(task, plan, outline)
+    }
+
+    /// The reply to the call that the task has entered for. The plan, what was found as it was compared, and the verdict of
+    /// the listed policies on it are those of now.
+    pub fn reply(
+        &self,
+        alloc: Global,
+        task: u32,
+        plan: &Plan,
+        found: &Found,
+        verdict: &Verdict,
+    ) -> Result<KeptReply, AllocError>
+        requires task { task < length self.now.script.tasks }
+        requires turn { turn_at self.now task ≡ turn.Entered }
+        requires plan { next_plan self.now.script (run_state self.now) task ≡ Some plan.now }
+        requires found { plan.now.tail ≡ Do
+            → IsNextFound self.now.script (run_state self.now) task found.now }
+        requires verdict { verdict.now ≡ verdict_of (specs_of self.now) plan.now }
+        ensures value { IfOk result (λ reply. next_reply self.now.script (run_state self.now) task
+            ≡ Some reply) }
+        ensures done { IfOk result (λ reply. is_ok reply ≡ true → plan.now.tail ≡ Do) }
+        ensures refused { IfOk result (λ reply.
+            is_ok (reply_to plan.now verdict.now.denied payload.None) ≡ false
+            → is_ok reply ≡ false) }
+        ensures memory { is_ok (reply_to plan.now verdict.now.denied payload.None) ≡ false
+            → IsOk result }
+    {
+        self.run.reply(alloc, task, plan, found, verdict)
+    }
+
+    /// Commits the call that the task has entered for, with this reply to it. If memory runs out, nothing changes.
+    pub fn commit(
+        &mut self,
+        alloc: Global,
+        task: u32,
+        found: &Found,
+        reply: KeptReply,
+    ) -> Result<(), AllocError>
+        requires task { task < length self.old.script.tasks }
+        requires turn { turn_at self.old task ≡ turn.Entered }
+        requires reply { next_reply self.old.script (run_state self.old) task ≡ Some reply }
+        requires found { is_ok reply ≡ true
+            → IsNextFound self.old.script (run_state self.old) task found.now }
+        ensures event { OnOk result (self.new ≡ with_next self.old
+            (event.Done task (next_number (run_state self.old) task) reply)) }
+        ensures progress { OnOk result
+            (AdvancesOn commit.Done (progress_of self.old) task (progress_of self.new)) }
+        ensures specs { specs_of self.new ≡ specs_of self.old }
+        ensures entries { open_of self.new ≡ open_of self.old }
+        ensures lines { done_of self.new ≡ done_of self.old }
+        ensures err { OnErr result (self.new ≡ self.old) }
+        ensures memory { is_ok reply ≡ false → IsOk result }
+    {
+        let number = self.run.lines(task) + 1;
+        self.run.commit(alloc, task, number, found, &reply)?;
+        self.history.events.push(Event::Done(task, number, reply));
+        Ok(())
     }
 
     /// Makes the change of the task's next line. While entries are open nothing changes, and the result is `Waits` with
