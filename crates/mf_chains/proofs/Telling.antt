@@ -33,15 +33,23 @@ use Rattle.mf_plan.specs.Plan.{call_row, plan_in, plan_of, row_for}
 use Rattle.mf_plan.specs.Rows.{about_of}
 use Rattle.mf_plan.proofs.Finding.{asked_in_effect, row_by}
 use Rattle.mf_plan.proofs.Transfers.{through_descriptor}
+use Rattle.mf_perform.specs.OneCall.{after_reply}
 use Rattle.mf_perform.specs.Passed.{passed}
+use Rattle.mf_perform.specs.Refused.{is_ok}
 use Rattle.mf_core.specs.declared.history.Event.{Event}
 use Rattle.mf_core.specs.declared.history.Event.TheVariants as event
 use Rattle.mf_core.specs.LegalHistory.{RunState, next_line, run_after}
-use Rattle.mf_flow.specs.Rows.{relabel_asked, element_numbered, may_come}
+use Rattle.mf_flow.specs.Rows.{where_done, relabel_asked, element_numbered, may_come}
 use Rattle.mf_list.specs.Asked.{slot_of}
 use Rattle.mf_flow.specs.Transfers.{caller_of, descriptor_of}
 use Rattle.mf_chains.specs.declared.happening.Occurrence.{Occurrence}
 use Rattle.mf_chains.specs.Happenings.{coming, element_at, coming_at, happened_at_line, happened_from, happened_in, moving_from, moving_of, relabelling}
+
+-- What a call with that reply asks, it asks where it is done.
+pub asked_after : (said : Reply) (asked : Option (Id × Request)) → after_reply said None asked ≡ where_done (is_ok said) asked
+asked_after (reply.Ok payload) asked = refl
+asked_after (reply.Denied errno op item by) asked = refl
+asked_after (reply.Refused errno) asked = refl
 
 -- Entities
 

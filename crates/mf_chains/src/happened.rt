@@ -317,7 +317,8 @@ fn labelled(
     maker: Option<Id>,
 ) -> Occurrence
     requires { slot_of registration.now < SLOTS }
-    ensures { result ≡ spec.labelled event id (spec.element_at registration.now objects.now id) maker }
+    ensures { result
+        ≡ spec.labelled event id (spec.element_at registration.now objects.now id) maker }
 {
     let slot = registration.slot.unwrap_or(0);
     let own = own_element(element_at(objects, slot, id.number()));

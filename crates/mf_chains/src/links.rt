@@ -103,7 +103,8 @@ impl Links {
 fn steps_back(alloc: Global, links: &[Link], place: usize) -> Result<(Step, Vec<Step>), AllocError>
     requires linked { AreLinked 0 links.now }
     requires place { place < length links.now }
-    ensures { IfOk result (λ r. record { origin = r.0.party; event = r.0.event; steps = reverse r.1.items }
+    ensures { IfOk result (λ r.
+        record { origin = r.0.party; event = r.0.event; steps = reverse r.1.items }
         ≡ slice_index_or (chains_of links.now) place no_chain) }
 {
     let mut steps = Vec::new(alloc);

@@ -91,7 +91,8 @@ pub fn joined(
     requires set { AreThere links.old set.now }
     requires given { AreThere links.old given.now }
     ensures kept { IfOk result (λ new. kept_in links.new new
-        ≡ with_lacking (kept_in links.old set.now) (map (stepped step) (kept_in links.old given.now))) }
+        ≡ with_lacking (kept_in links.old set.now)
+        (map (stepped step) (kept_in links.old given.now))) }
     ensures there { IfOk result (λ new. AreThere links.new new) }
     ensures count { IfOk result (λ new. length links.new + length set.now
         ≡ length links.old + length new) }

@@ -1,5 +1,5 @@
 -- A listed policy that answers as a policy with an order does: what of the checks that passed it allows itself, and what they see.
-use Rattle.std.proofs.Common.{◌≡◌, ℕ, ◌<◌, Bool, true, false, List, [], ◌∷◌, length, Option, Some, None, slice_index_or, refl, ap, sym, ◌∙◌, subst}
+use Rattle.std.proofs.Common.{◌≡◌, ℕ, ◌<◌, true, false, List, [], ◌∷◌, length, Option, Some, None, slice_index_or, refl, ap, sym, ◌∙◌, subst}
 use Rattle.std.specs.List.{AllByRecursion}
 use Rattle.mf_errno.specs.declared.errno.Errno.TheVariants.{Success}
 use Rattle.mf_errno.specs.declared.module.Module.{Module}

@@ -1,19 +1,17 @@
 -- What becomes of each policy's sources, as a loop goes over them.
-use Rattle.std.proofs.Common.{◌≡◌, ℕ, ◌<◌, ◌+◌, zero, suc, None, List, [], ◌∷◌, get_or, length, map, set, refl, ap, ◌∙◌, subst, arith}
+use Rattle.std.proofs.Common.{◌≡◌, ℕ, ◌<◌, ◌+◌, zero, suc, Bool, List, [], ◌∷◌, get_or, length, map, set, refl, ap, ◌∙◌, subst, arith}
 use Rattle.std.specs.List.{AllByRecursion}
 use Rattle.std.specs.Option.{option_zip}
 use Rattle.mf_policy.specs.declared.registration.Registration.{Registration}
 use Rattle.mf_objects.specs.Live.{Entities}
 use Rattle.mf_plan.specs.declared.found.Found.{Found}
-use Rattle.mf_plan.specs.declared.reply.Reply.{Reply}
-use Rattle.mf_perform.specs.OneCall.{after_reply}
 use Rattle.mf_flow.specs.declared.following.Flow.{Flow}
-use Rattle.mf_flow.specs.Rows.{EachBecomes, IsKept, flow_settled}
+use Rattle.mf_flow.specs.Rows.{EachBecomes, IsKept, where_done, flow_settled}
 
--- what is left of a call with that reply, by what was found
-abbrev pub IsSettled : ℕ → Entities → Found → Reply → Flow → Flow → Type 0
-IsSettled next objects found said f new =
-    IsKept objects (flow_settled next objects found.caller (after_reply said None (option_zip found.target found.request)) f) new
+-- what is left of a call, done or not, by what was found
+abbrev pub IsSettled : ℕ → Entities → Found → Bool → Flow → Flow → Type 0
+IsSettled next objects found is_done f new =
+    IsKept objects (flow_settled next objects found.caller (where_done is_done (option_zip found.target found.request)) f) new
 
 -- so many have become what they shall, and the rest is as it was
 abbrev pub SoFar : (Flow → Flow → Type 0) → List Flow → List Flow → ℕ → Type 0

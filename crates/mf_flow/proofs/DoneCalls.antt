@@ -37,19 +37,21 @@ use Rattle.mf_core.specs.declared.history.Event.{Event}
 use Rattle.mf_core.specs.declared.history.Event.TheVariants as event
 use Rattle.mf_core.specs.Progress.{progress_at}
 use Rattle.mf_core.specs.LegalHistory.{RunState, next_line, MayCome, run_after}
-use Rattle.mf_core.specs.NextFound.{FoundAt, IsNextFound}
+use Rattle.mf_core.specs.NextFound.{FoundAt, IsNextFound, IsOutlineOf}
 use Rattle.mf_core.proofs.SameLists.{done_tail}
 use Rattle.mf_perform.specs.Passed.{passed}
 use Rattle.mf_flow.specs.declared.following.Flow.{Flow}
-use Rattle.mf_flow.specs.Rows.{Rows, rows_moved, rows_after_line, flow_moved, flow_settled, flow_after_event, relabel_asked, rows_by}
+use Rattle.mf_flow.specs.Rows.{IsKept, Rows, where_done, rows_moved, rows_after_line, flow_moved, flow_settled, flow_after_event, relabel_asked, rows_by}
+use Rattle.mf_flow.proofs.Becoming.{IsSettled}
 use Rattle.mf_flow.specs.Transfers.{caller_of, counts, descriptor_of}
 use Rattle.mf_flow.proofs.Counted.{all_pass}
 use Rattle.std.specs.Option.{option_map_or, option_zip}
 use Rattle.mf_core.proofs.LookedUp.{reply_at}
 use Rattle.mf_elem.specs.declared.label.Request.{Request}
 use Rattle.mf_flow.proofs.Relabels.{zipped}
-use Rattle.mf_perform.specs.OneCall.{after_reply}
 use Rattle.mf_plan.specs.declared.outline.Check.{Check}
+use Rattle.mf_plan.specs.declared.outline.Outline.{Outline}
+use Rattle.mf_plan.specs.Planned.{Plan}
 use Rattle.mf_plan.specs.Outline.{item_asking, item_of}
 
 abbrev flow_after_line : State → State → List ℕ → Option Line → Reply → Flow → Flow
@@ -209,6 +211,13 @@ plan_moves s task line said f = one (caller_of s task line)
     one None = refl
     one (Some me) = through me (descriptor_at s me (about_of s task me line.call).place) refl
 
+-- what a call that is done asks of whose label was found as its plan was made
+said_asked : (state : State) (task : List ℕ) (line : Line) (said : Reply) (found : Found) → (is_ok said ≡ true → AreFound state task line.child line.call found)
+    → where_done (is_ok said) (option_zip found.target found.request) ≡ relabel_asked state task line said
+said_asked state task line (reply.Ok payload) found found_is = zipped state task line.child line.call found (found_is refl)
+said_asked state task line (reply.Denied errno op item by) found found_is = refl
+said_asked state task line (reply.Refused errno) found found_is = refl
+
 -- The call of an event that may come, whose line is the task's next one in this state
 
 pub done_flow : (s : Script) (run : RunState) (e : Event) (t number : ℕ) (said : Reply) (state state' : State) (task : List ℕ) (line : Line) (f moved : Flow) (fd : Option Fd)
@@ -263,12 +272,28 @@ done_found s run e t number said state task line found is may here task_is line_
 pub done_asked : (s : Script) (run : RunState) (e : Event) (t number : ℕ) (said : Reply) (state : State) (task : List ℕ) (line : Line) (found : Found)
     → e ≡ event.Done t number said → MayCome s run e → state ≡ run.state → task ≡ name_of s t → next_line s run.progress t ≡ Some line
     → ((plan_of state task line.child line.call).tail ≡ Do → AreFound state task line.child line.call found)
-    → after_reply said None (option_zip found.target found.request) ≡ relabel_asked state task line said
+    → where_done (is_ok said) (option_zip found.target found.request) ≡ relabel_asked state task line said
 done_asked s run e t number said state task line found is may here task_is line_is found_is =
-    one said (done_ends s run e t number said state task line is may here task_is line_is)
-  where
-    one : (said : Reply) → (is_ok said ≡ true → (plan_of state task line.child line.call).tail ≡ Do) → after_reply said None (option_zip found.target found.request) ≡ relabel_asked state task line said
-    one (reply.Ok payload) ends =
-        zipped state task line.child line.call found (found_is (ends refl))
-    one (reply.Denied errno op item by) ends = refl
-    one (reply.Refused errno) ends = refl
+    said_asked state task line said found (λ done. found_is (done_ends s run e t number said state task line is may here task_is line_is done))
+
+-- What an event makes of the sources by a policy, once its checks have moved some and entities have come or were relabelled
+module _ (s : Script) (run : RunState) (t number : ℕ) (said : Reply) (line : Line) (outline : Outline) (line_is : next_line s run.progress t ≡ Some line)
+    (is : IsOutlineOf s run t line outline) (found : is_ok said ≡ true → IsNextFound s run t outline.found) where
+  abbrev e : Event
+  e = event.Done t number said
+
+  found_here : is_ok said ≡ true → AreFound run.state (name_of s t) line.child line.call outline.found
+  found_here done = subst (λ (l : Option Line). FoundAt s run t l outline.found) line_is (found done)
+
+  pub call_becomes : (f moved new : Flow) → moved ≡ flow_moved run.state (descriptor_of run.state (name_of s t) line) (map (item_of run.state.objects) (passed said outline.checks)) f
+      → IsSettled run.state.objects.next (run_after s run e).state.objects outline.found (is_ok said) moved new
+      → IsKept (run_after s run e).state.objects (flow_after_event s run e f) new
+  call_becomes f moved new moved_is settled =
+      let request : Option Request = outline.found.request in
+      let items_are : map (item_asking run.state.objects request) (passed said outline.checks) ≡ passed said (plan_in run.state (call_row run.state (name_of s t) line.child line.call)).items =
+      sym (passed_map said (item_asking run.state.objects request) outline.checks) ∙ ap (λ (p : Plan). passed said p.items) is.plan in
+      subst (λ (x : Flow). IsKept (run_after s run e).state.objects x new)
+      (done_flow s run e t number said run.state (run_after s run e).state (name_of s t) line f moved (descriptor_of run.state (name_of s t) line) request (passed said outline.checks)
+      run.state.objects.next outline.found.caller (where_done (is_ok said) (option_zip outline.found.target request))
+      refl refl refl refl line_is items_are moved_is refl refl is.caller (said_asked run.state (name_of s t) line said outline.found found_here))
+      settled

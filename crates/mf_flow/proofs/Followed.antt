@@ -116,7 +116,7 @@ done_rows p r spec s run t (Some line) said sets rows is flowing are =
     let same : call_reply run.state (name_of s t) line.child line.call ≡ said = cc in
     call_rows p r spec run.state (state_at s run t (Some line)) (name_of s t) line said sets rows same refl (line_change s run t line said same flowing.held.kept.rooted) flowing are
 
-event_rows : (p : FlowPolicy) (r : Registration) (spec : Spec) (s : Script) (run : RunState) (e : Event) (sets : Sets) (rows : Rows) → MayCome s run e
+pub event_rows : (p : FlowPolicy) (r : Registration) (spec : Spec) (s : Script) (run : RunState) (e : Event) (sets : Sets) (rows : Rows) → MayCome s run e
     → IsFlowing p r spec run.state sets → AreRows run.state.objects sets rows
     → AreRows (run_after s run e).state.objects (sets_after_event s r run e sets) (rows_after_event s r run e rows)
 event_rows p r spec s run (event.Enter t) sets rows may flowing are = are
@@ -128,7 +128,7 @@ event_rows p r spec s run (event.Changed t line said) sets rows may flowing are 
 -- Entities that are gone
 
 -- emptied rows of what is gone are no rows of live entities
-kept_rows : (o : Entities) (sets : Sets) (rows rows' : Rows) → AreKept o rows rows' → AreRows o sets rows → AreRows o sets rows'
+pub kept_rows : (o : Entities) (sets : Sets) (rows rows' : Rows) → AreKept o rows rows' → AreRows o sets rows → AreRows o sets rows'
 kept_rows o sets rows rows' kept are =
     record { count = kept.count ∙ are.count; each = λ id e live. kept.each id e live ∙ are.each id e live }
 

@@ -1,5 +1,6 @@
--- The sources as a list by the numbers of ids, as they are kept while a history is gone through.
-use Rattle.std.specs.Prelude.{◌≡◌, ◌<◌, ℕ, Bool, false, not, nat_lt, List, [], ◌∷◌, ◌++◌, Option, Some, None, filter, find, fold, length, slice_index_or, slice_set, if◌then◌else◌}
+-- The sources as a list by the numbers of ids, as they are kept along a history.
+use Rattle.std.specs.Prelude.{◌≡◌, ◌<◌, ℕ, Bool, false, true, not, nat_lt, List, [], ◌∷◌, ◌++◌, Option, Some, None, filter, find, fold, length, map, slice_index_or, slice_set, if◌then◌else◌}
+use Rattle.std.specs.List.{AllByRecursion}
 use Rattle.mf_errno.specs.declared.module.Module.{Module}
 use Rattle.mf_elem.specs.declared.elem.Elem.{Elem}
 use Rattle.mf_elem.specs.declared.label.TheConstants.{SLOTS}
@@ -35,6 +36,7 @@ use Rattle.mf_core.specs.declared.history.History.{History}
 use Rattle.mf_core.specs.LegalHistory.{RunState, next_line, run_after, run_state_of}
 use Rattle.mf_flow.specs.Order.{union}
 use Rattle.mf_flow.specs.Sources.{Sets, own_source, held_by, has_element, moving, sources_of}
+use Rattle.mf_flow.specs.Table.{sourced}
 use Rattle.mf_flow.specs.Transfers.{caller_of, counts}
 use Rattle.mf_flow.specs.declared.following.Flow.{Flow}
 
@@ -117,6 +119,11 @@ rows_given slot m objects (Some asked) rows =
 abbrev pub relabel_asked : State → List ℕ → Line → Reply → Option (Id × Request)
 relabel_asked s task line reply = after_reply reply None (relabelled_by (call_row s task line.child line.call).effect)
 
+-- the same of what was found, by whether the call is done
+abbrev pub where_done : Bool → Option (Id × Request) → Option (Id × Request)
+where_done true asked = asked
+where_done false asked = None
+
 abbrev pub rows_after_line : Registration → State → State → List ℕ → Option Line → Reply → Rows → Rows
 rows_after_line r s s' task None reply rows = rows
 rows_after_line r s s' task (Some line) reply rows =
@@ -184,3 +191,7 @@ IsOpening o f = AreOwnRows (slot_of f.registration) o f.sets
 
 abbrev pub IsFlowOf : Script → History → Flow → Type 0
 IsFlowOf s h f = AreRows (run_state_of s h.events.list).state.objects (sources_of s f.registration h.events.list) f.sets
+
+-- these are the sources at the end of a history, by each policy that was booted and bounds what may move
+abbrev pub AreSourcesOf : Script → History → List Flow → Type 0
+AreSourcesOf s h flows = (map (λ f. f.registration) flows ≡ sourced h.boots) × AllByRecursion (IsFlowOf s h) flows

@@ -1,4 +1,4 @@
-//! The sources after each event of a history.
+//! The sources after each event of a history, and after each call that is committed.
 ghost use Rattle.std.specs.Prelude.{◌≡◌, ◌<◌, None, IfOk, OnOk, find, map};
 ghost use Rattle.std.specs.List.{AllByRecursion};
 ghost use Rattle.std.specs.Option.{option_zip};
@@ -7,7 +7,6 @@ ghost use Rattle.mf_plan.specs.Outline.{item_of};
 ghost use Rattle.mf_list.specs.Asked.{slot_of};
 ghost use Rattle.mf_objects.specs.Lives.{is_from};
 ghost use Rattle.mf_calls.specs.WellFormed.{IsFormedLine, IsName, IsWellFormed};
-ghost use Rattle.mf_perform.specs.OneCall.{after_reply};
 ghost use Rattle.mf_perform.specs.Passed.{passed};
 ghost use Rattle.mf_core.specs.declared.history.Event.TheVariants as events;
 ghost use Rattle.mf_core.specs.LegalHistory.{run_after, MayCome};
@@ -25,11 +24,11 @@ use mf_core::{Event, KeptReply, Run};
 use mf_elem::Elem;
 use mf_objects::{Fd, Id, Objects};
 use mf_perform::passed;
-use mf_plan::{Check, Found, LastLabel, Outline, Reply, State, descriptor_of_call};
+use mf_plan::{Check, Found, LastLabel, Outline, State, descriptor_of_call};
 use mf_policy::{Registration, slot_label};
 use std::alloc::{AllocError, Global};
 
-/// The sources by a policy that was booted, while a history is gone through.
+/// The sources by a policy that was booted, along a history.
 #[derive(Drop)]
 pub struct Flow {
     pub registration: Registration,
@@ -135,11 +134,11 @@ fn follow_call(
     move_passed(alloc, state, name, line, outline, reply, flows)?;
     run.commit(alloc, task, number, &outline.found, reply)?;
     let objects = &run.state().objects;
-    settle_call(alloc, next, objects, &outline.found, reply, flows)
+    settle_each(alloc, next, objects, &outline.found, reply.is_ok(), flows)
 }
 
 /// What the checks of a call move that passed, by each policy. A reply is wide: it is lent apart from what may fail.
-fn move_passed(
+pub(crate) fn move_passed(
     alloc: Global,
     state: &State,
     task: &str,
@@ -195,44 +194,24 @@ fn move_in(
     move_all(alloc, &flow.registration, state, fd, &mut flow.sets, checks)
 }
 
-/// What is left of a call with that reply, by each policy.
-fn settle_call(
+/// What is left of a call, done or not, by each policy: the sources of an entity that came under this number, and of one that was
+/// relabelled. Now and then those of entities that are gone are freed.
+pub(crate) fn settle_each(
     alloc: Global,
     next: u32,
     objects: &Objects,
     found: &Found,
-    reply: &KeptReply,
+    is_done: bool,
     flows: &mut Vec<Flow>,
 ) -> Result<(), AllocError>
     requires { AllByRecursion spec.HasLabelSlot flows.old.items }
     ensures { OnOk result (spec.EachBecomes (λ f new. spec.IsKept objects.now
         (spec.flow_settled next objects.now found.now.caller
-        (after_reply reply.now None (option_zip found.now.target found.now.request)) f) new)
-        flows.old.items flows.new.items) }
-{
-    let lent = reply.lend();
-    let said = lent.get();
-    settle_each(alloc, next, objects, found, said, flows)
-}
-
-/// The same, by the reply itself: the sources of an entity that came under this number, and of one that was relabelled.
-/// Now and then those of entities that are gone are freed.
-fn settle_each(
-    alloc: Global,
-    next: u32,
-    objects: &Objects,
-    found: &Found,
-    reply: &Reply,
-    flows: &mut Vec<Flow>,
-) -> Result<(), AllocError>
-    requires { AllByRecursion spec.HasLabelSlot flows.old.items }
-    ensures { OnOk result (spec.EachBecomes (λ f new. spec.IsKept objects.now
-        (spec.flow_settled next objects.now found.now.caller
-        (after_reply reply.now None (option_zip found.now.target found.now.request)) f) new)
+        (spec.where_done is_done (option_zip found.now.target found.now.request)) f) new)
         flows.old.items flows.new.items) }
 {
     for place in 0..flows.len() {
-        settle(alloc, next, objects, found, reply, &mut flows[place])?;
+        settle(alloc, next, objects, found, is_done, &mut flows[place])?;
     }
     Ok(())
 }
@@ -242,19 +221,19 @@ fn settle(
     next: u32,
     objects: &Objects,
     found: &Found,
-    reply: &Reply,
+    is_done: bool,
     flow: &mut Flow,
 ) -> Result<(), AllocError>
     requires { spec.HasLabelSlot flow.old }
     ensures { OnOk result (spec.IsKept objects.now
         (spec.flow_settled next objects.now found.now.caller
-        (after_reply reply.now None (option_zip found.now.target found.now.request)) flow.old)
+        (spec.where_done is_done (option_zip found.now.target found.now.request)) flow.old)
         flow.new) }
 {
     let slot = flow.slot();
     create(alloc, slot, next, objects, found.caller, &mut flow.sets)?;
     let module = flow.registration.module;
-    give(alloc, slot, module, objects, found, reply, &mut flow.sets)?;
+    give(alloc, slot, module, objects, found, is_done, &mut flow.sets)?;
     sweep(alloc, objects, &mut flow.sets);
     Ok(())
 }

@@ -3,7 +3,7 @@ ghost use Rattle.std.specs.Prelude.{◌≡◌, ◌<◌, None, IfOk, OnOk};
 ghost use Rattle.std.specs.Option.{option_zip};
 ghost use Rattle.mf_elem.specs.declared.label.TheConstants.{SLOTS};
 ghost use Rattle.mf_perform.specs.OneCall.{after_reply};
-ghost use Rattle.mf_flow.specs.Rows.{rows_given};
+ghost use Rattle.mf_flow.specs.Rows.{where_done, rows_given};
 ghost use Rattle.mf_flow.specs.Sources.{own_source, has_element as has_element_for};
 
 use crate::effective::element_at;
@@ -34,15 +34,15 @@ pub fn give(
     module: Module,
     objects: &Objects,
     found: &Found,
-    reply: &Reply,
+    is_done: bool,
     sets: &mut SetList,
 ) -> Result<(), AllocError>
     requires { slot < SLOTS }
-    ensures { OnOk result (sets.new ≡ rows_given slot «module» objects.now (after_reply reply.now
-        None (option_zip found.now.target found.now.request)) sets.old) }
+    ensures { OnOk result (sets.new ≡ rows_given slot «module» objects.now
+        (where_done is_done (option_zip found.now.target found.now.request)) sets.old) }
 {
-    match (reply, found.target, &found.request) {
-        (Reply::Ok(_), Some(id), Some(request)) if has_element(module, request) => {
+    match (is_done, found.target, &found.request) {
+        (true, Some(id), Some(request)) if has_element(module, request) => {
             let element = element_at(objects, slot, id.number());
             let set = own_source(alloc, element)?;
             sets.put(id.number(), Some(set));

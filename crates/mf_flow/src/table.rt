@@ -138,7 +138,7 @@ fn follow_all(
 }
 
 /// The sources in the opening state by each of these policies.
-fn opening_flows(
+pub(crate) fn opening_flows(
     alloc: Global,
     booted: &[Registration],
     objects: &Objects,
@@ -160,7 +160,11 @@ fn opening_flows(
 }
 
 /// The rows of each policy in turn.
-fn list_flows(alloc: Global, objects: &Objects, flows: &[Flow]) -> Result<Table, AllocError>
+pub(crate) fn list_flows(
+    alloc: Global,
+    objects: &Objects,
+    flows: &[Flow],
+) -> Result<Table, AllocError>
     ensures { (s : ScriptValue) (h : HistoryValue) → objects.now
         ≡ (run_state_of s h.events.list).state.objects → AllByRecursion (IsFlowOf s h) flows.now
         → IfOk result

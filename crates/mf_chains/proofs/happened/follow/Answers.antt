@@ -20,7 +20,7 @@ use Rattle.mf_core.specs.RunView.{RunView}
 use Rattle.mf_flow.specs.Transfers.{descriptor_of}
 use Rattle.mf_flow.proofs.DoneCalls.{done_asked, done_found, done_line, passed_map}
 use Rattle.mf_flow.proofs.Followed.{where_ok}
-use Rattle.mf_chains.proofs.Telling.{done_happened, nothing_happened}
+use Rattle.mf_chains.proofs.Telling.{asked_after, done_happened, nothing_happened}
 use Rattle.mf_chains.proofs.happened.follow.Goals as goal
 
 pub returns-in_ok-push_coming-in-Done-clause-past : goal.returns-in_ok-push_coming-in-Done-clause-past
@@ -57,6 +57,7 @@ returns-in_ok-push_coming-in-Done-clause-past c =
     c.descriptor_of_call-fd.ensures.value ∙ ap (λ (child : Option (List ℕ)). descriptor_of state task (record line { child = child })) c.child_name-child.ensures in
     let asked_is =
     c.asked_of-asked.ensures ∙ ap (λ (said : Reply). after_reply said None (option_zip outline.found.target request)) said_is
+    ∙ asked_after c.in-Done.reply (option_zip outline.found.target request)
     ∙ done_asked s run e c.in-Done.task c.in-Done.line_number c.in-Done.reply state task line outline.found c.in-Done.is c.requires.may c.state-state.ensures c.name_of-name.ensures next_is
     (λ tail. subst (λ (child : Option (List ℕ)). AreFound state task child line.call outline.found) c.child_name-child.ensures
     (c.outline_of-outline.ensures.found (outline_tail tail))) in

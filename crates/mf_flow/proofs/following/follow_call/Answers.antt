@@ -1,4 +1,4 @@
-use Rattle.std.proofs.Common.{◌≡◌, ap, sym, subst, map, List, ℕ, Option, None, refl, ◌∙◌}
+use Rattle.std.proofs.Common.{◌≡◌, ap, sym, subst, map, Bool, List, ℕ, Option, refl, ◌∙◌}
 use Rattle.std.specs.Option.{option_zip}
 use Rattle.std.proofs.lemmas.Result.{on_ok_weaker}
 use Rattle.mf_calls.specs.declared.script.Script.{Script}
@@ -11,13 +11,12 @@ use Rattle.mf_plan.specs.declared.state.State.{State}
 use Rattle.mf_objects.specs.Live.{Entities}
 use Rattle.mf_plan.specs.Plan.{call_row, plan_in, plan_of}
 use Rattle.mf_plan.specs.Views.{process_named}
-use Rattle.mf_perform.specs.OneCall.{after_reply}
 use Rattle.mf_core.specs.LegalHistory.{run_after}
 use Rattle.mf_core.specs.NextFound.{IsNextFound}
 use Rattle.mf_core.specs.RunView.{RunView}
 use Rattle.mf_perform.specs.Passed.{passed}
 use Rattle.mf_flow.specs.declared.following.Flow.{Flow}
-use Rattle.mf_flow.specs.Rows.{HasLabelSlot, IsKept, flow_after_event, flow_moved, flow_settled}
+use Rattle.mf_flow.specs.Rows.{HasLabelSlot, IsKept, where_done, flow_after_event, flow_moved, flow_settled}
 use Rattle.mf_flow.specs.Transfers.{descriptor_of}
 use Rattle.mf_flow.proofs.Becoming.{all_becoming, becomes_along}
 use Rattle.mf_core.specs.declared.history.Event.TheVariants as event
@@ -38,7 +37,7 @@ returns-clause-flows c =
     let checks = passed said outline.checks in
     let request = outline.found.request in
     let caller = outline.found.caller in
-    let asked = after_reply said None (option_zip outline.found.target request) in
+    let asked = where_done c.is_ok.result (option_zip outline.found.target request) in
     let fd = descriptor_of state task line in
     let next = c.next_id-next.result in
     let next_is = done_line s run e c.args.task c.args.number said line refl c.requires.may c.line_at-line.ensures in
@@ -52,23 +51,24 @@ returns-clause-flows c =
     ∙ ap (λ (child : Option (List ℕ)). passed said (plan_in state (call_row state task child line.call)).items) c.child_name-child.ensures in
     let caller_is = c.make.ensures.caller ∙ ap (λ (child : Option (List ℕ)). process_named state.objects (caller_name task child)) c.child_name-child.ensures in
     let asked_is =
-    done_asked s run e c.args.task c.args.number said state task line outline.found refl c.requires.may c.state-state.ensures c.name_of-name.ensures next_is
+    ap (λ (b : Bool). where_done b (option_zip outline.found.target request)) c.is_ok.ensures
+    ∙ done_asked s run e c.args.task c.args.number said state task line outline.found refl c.requires.may c.state-state.ensures c.name_of-name.ensures next_is
     (λ tail. subst (λ (child : Option (List ℕ)). AreFound state task child line.call outline.found) c.child_name-child.ensures (c.make.ensures.found (outline_tail tail))) in
-    on_ok_weaker c.settle_call.result (λ settled.
+    on_ok_weaker c.settle_each.result (λ settled.
     becomes_along (λ (f new : Flow). new ≡ flow_moved state fd (map (item_of state.objects) checks) f)
     (λ (f new : Flow). IsKept state'.objects (flow_settled next state'.objects caller asked f) new)
     (λ (f new : Flow). IsKept (run_after s run e).state.objects (flow_after_event s run e f) new)
-    c.args.flows.now.items c.move_passed.new.flows.items c.settle_call.new.flows.items
+    c.args.flows.now.items c.move_passed.new.flows.items c.settle_each.new.flows.items
     (λ f moved new is kept.
     subst (λ (o : Entities). IsKept o (flow_after_event s run e f) new) (ap (λ (x : State). x.objects) after_is)
     (subst (λ (x : Flow). IsKept state'.objects x new)
     (done_flow s run e c.args.task c.args.number said state state' task line f moved fd request checks next caller asked
     refl c.state-state.ensures after_is c.name_of-name.ensures next_is items_are is refl c.next_id-next.ensures caller_is asked_is)
     kept))
-    c.in_ok-move_passed.ensures settled) c.settle_call.ensures
+    c.in_ok-move_passed.ensures settled) c.settle_each.ensures
 
-pub settle_call-requires : goal.settle_call-requires
-settle_call-requires c =
+pub settle_each-requires : goal.settle_each-requires
+settle_each-requires c =
     let s = c.state-state.result.now in
     let fd = descriptor_of s c.name_of-name.result.now c.line_at-line.result.now in
     let checks = passed c.args.reply.now c.make.new.self.checks in

@@ -5,11 +5,11 @@ use Rattle.mf_flow.proofs.Becoming.{IsSettled, all_become, as_it_was, as_many, b
 use Rattle.mf_flow.proofs.following.settle_each.Goals as goal
 
 pub loop-place-init : goal.loop-place-init
-loop-place-init c = none_yet (IsSettled c.args.next c.args.objects.now c.args.found.now c.args.reply.now) c.args.flows.now.items
+loop-place-init c = none_yet (IsSettled c.args.next c.args.objects.now c.args.found.now c.args.is_done) c.args.flows.now.items
 
 pub settle-requires : goal.settle-requires
 settle-requires c =
-    let R = IsSettled c.args.next c.args.objects.now c.args.found.now c.args.reply.now in
+    let R = IsSettled c.args.next c.args.objects.now c.args.found.now c.args.is_done in
     let fs = c.args.flows.now.items in
     let here = c.index_mut.result.now in
     let count = as_many R fs c.loop-place.flows.items c.loop-place.place c.loop-place.invariant in
@@ -18,13 +18,13 @@ settle-requires c =
 
 pub loop-place-preserved : goal.loop-place-preserved
 loop-place-preserved c =
-    let R = IsSettled c.args.next c.args.objects.now c.args.found.now c.args.reply.now in
+    let R = IsSettled c.args.next c.args.objects.now c.args.found.now c.args.is_done in
     let count = as_many R c.args.flows.now.items c.loop-place.flows.items c.loop-place.place c.loop-place.invariant in
     becomes_more R c.args.flows.now.items c.loop-place.flows.items c.loop-place.place c.index_mut.result.now c.settle.new.flow c.loop-place.invariant (omega (arith, count))
     c.index_mut.ensures.value c.in_ok-settle.ensures
 
 pub returns : goal.returns
 returns c =
-    let R = IsSettled c.args.next c.args.objects.now c.args.found.now c.args.reply.now in
+    let R = IsSettled c.args.next c.args.objects.now c.args.found.now c.args.is_done in
     all_become R c.args.flows.now.items c.loop-place.flows.items c.loop-place.place
     (omega (arith, c.len-place-end.ensures)) c.loop-place.invariant

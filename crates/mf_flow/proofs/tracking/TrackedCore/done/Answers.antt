@@ -1,0 +1,25 @@
+use Rattle.std.proofs.Common.{◌≡◌, false, true, List, ap, ◌∙◌}
+use Rattle.mf_policy.specs.Registration.{Entry}
+use Rattle.mf_perform.specs.Verdict.{verdict_of}
+use Rattle.mf_flow.proofs.tracking.TrackedCore.done.Goals as goal
+
+pub reply-requires-clause-plan : goal.reply-requires-clause-plan
+reply-requires-clause-plan g c = (c.is_current.ensures.is.0 c.if-not-is_current.false).0
+
+pub reply-requires-clause-found : goal.reply-requires-clause-found
+reply-requires-clause-found g c = λ tail. c.is_current.ensures.found tail c.if-not-is_current.false
+
+pub reply-requires-clause-verdict : goal.reply-requires-clause-verdict
+reply-requires-clause-verdict g c =
+    c.requires.verdict ∙ ap (λ (listed : List Entry). verdict_of listed c.args.plan.now) (c.is_current.ensures.is.0 c.if-not-is_current.false).1
+
+pub commit-requires-clause-outline : goal.commit-requires-clause-outline
+commit-requires-clause-outline g c = c.is_current.ensures.outline c.if-not-is_current.false
+
+pub commit-requires-clause-found : goal.commit-requires-clause-found
+commit-requires-clause-found g c = λ done. c.is_current.ensures.found (c.in_ok-reply.ensures.done done) c.if-not-is_current.false
+
+pub returns-in_err-commit-clause-memory : goal.returns-in_err-commit-clause-memory
+returns-in_err-commit-clause-memory g c = λ refused.
+    let no_error : false ≡ true = c.in_err-commit.ensures.memory (c.in_ok-reply.ensures.refused refused) in
+    cc
