@@ -1,4 +1,4 @@
-//! The value behind the kernel's lock: the core, with the books of lines done and of open entries.
+//! The value behind the kernel's lock: the core with its sources, and the books of lines done and of open entries.
 ghost use Rattle.std.specs.Prelude.{◌≡◌, ◌<◌, ◌≤◌, ◌++◌, ◌↔◌, true, false, length, IfOk, IsOk, IfErr, IfNone, IfSome, IsTrue, OnErr, Some};
 ghost use Rattle.mf_calls.specs.declared.limits.TheConstants.{LINE_LIMIT};
 ghost use Rattle.mf_plan.specs.declared.reply.Payload.TheVariants as payload;
@@ -16,7 +16,8 @@ ghost use Rattle.mf_share.specs.Passes.{AgreesWithPass, AgreesWithTicket, IsCore
 
 use crate::pass::{Job, Pass, Ticket};
 use crate::policies::Policies;
-use mf_core::{ChangeOutcome, Commit, Core, Turn};
+use mf_core::{ChangeOutcome, Commit, Turn};
+use mf_flow::TrackedCore;
 use mf_list::{Fixed, Listed};
 use mf_perform::Verdict;
 use mf_plan::Plan;
@@ -25,12 +26,12 @@ use std::alloc::{AllocError, Global};
 use std::marker::Model;
 use std::sync::ledger::{Book, Ledger};
 
-/// A core of the script that `J` names, with the total of lines done and that of what open entries weigh. Contracts see the
+/// A core of the script that `J` names, with its sources, the total of lines done and that of what open entries weigh. Contracts see the
 /// core. It agrees with a pass or a ticket where the core's turn of the task, and its lines done, are those that the
 /// pass or the ticket says.
 #[derive(Drop)]
 pub struct Desk<'s, J: Job, B: Ledger> {
-    pub(crate) core: Core<'s>,
+    pub(crate) core: TrackedCore<'s>,
     pub(crate) done: Book<J>,
     pub(crate) busy: Book<B>,
 }
@@ -54,7 +55,7 @@ impl<'s, J: Job, B: Ledger> Desk<'s, J, B> {
         ensures value { result ≡ open_of self.now }
         ensures script { self.now.script ≡ J.script }
     {
-        self.core.open_entries()
+        self.core.core().open_entries()
     }
 
     /// Begins an entry of the pass's task. None where the core doesn't agree with the pass; then nothing changes.
@@ -88,13 +89,13 @@ impl<'s, J: Job, B: Ledger> Desk<'s, J, B> {
         if !self.agrees_with_ticket(ticket) {
             return false;
         }
-        self.core.plan(ticket.task(), plan);
+        self.core.core().plan(ticket.task(), plan);
         true
     }
 
-    /// Commits the ticket's call, as `Core::done` does. None where the core doesn't agree with the ticket; then, and if
-    /// memory runs out, nothing changes. A call that is denied or refused takes no memory. While the ticket is at hand, an
-    /// entry is open.
+    /// Commits the ticket's call, as `TrackedCore::done` does. None where the core doesn't agree with the ticket; then, and
+    /// if memory runs out, nothing changes. A call that is denied or refused never fails for want of memory. While the
+    /// ticket is at hand, an entry is open.
     pub fn commit<P: Policy>(
         &mut self,
         alloc: Global,
@@ -114,7 +115,8 @@ impl<'s, J: Job, B: Ledger> Desk<'s, J, B> {
             × (self.new ≡ self.old) × (ticket.new ≡ ticket.old))) }
         ensures err { OnErr result (AgreesWithTicket self.old ticket.old × (self.new ≡ self.old)
             × (ticket.new ≡ ticket.old)) }
-        ensures memory { is_ok (reply_to plan.now verdict.now.denied payload.None) ≡ false → IsOk result }
+        ensures memory { is_ok (reply_to plan.now verdict.now.denied payload.None) ≡ false
+            → IsOk result }
         ensures core { IsCoreOf J.script self.old }
     {
         ticket.audit(&mut self.busy);
@@ -165,7 +167,8 @@ impl<'s, J: Job, B: Ledger> Desk<'s, J, B> {
             × (fixed.now ++ policies.old.list ≡ specs_of self.old)
             × Changes self.old pass.old.task outcome self.new
             × (fixed.now ++ policies.new.list ≡ specs_of self.new)
-            × StaysWhileWaiting outcome policies.old.list policies.new.list policies.old.catalogue policies.new.catalogue
+            × StaysWhileWaiting outcome
+            policies.old.list policies.new.list policies.old.catalogue policies.new.catalogue
             × (pass.new ≡ pass_changed outcome pass.old))) }
         ensures none { IfOk result (λ found. IfNone found
             (¬ (AgreesWithPass self.old pass.old
@@ -181,7 +184,7 @@ impl<'s, J: Job, B: Ledger> Desk<'s, J, B> {
         ensures core { IsCoreOf J.script self.old }
     {
         if !self.agrees_with(pass, Turn::Change)
-            || !Listed::new(fixed, policies.list()).same_specs(&self.core.state().specs)
+            || !Listed::new(fixed, policies.list()).same_specs(&self.core.core().state().specs)
         {
             return Ok(None);
         }
@@ -196,9 +199,10 @@ impl<'s, J: Job, B: Ledger> Desk<'s, J, B> {
         ensures few { IsTrue result → pass.now.lines ≤ LINE_LIMIT }
         ensures core { IsCoreOf J.script self.now }
     {
-        let _history = self.core.history();
-        let lines = self.core.lines(pass.task);
-        is_at(self.core.turn(pass.task), lines, next, pass.lines)
+        let core = self.core.core();
+        let _history = core.history();
+        let lines = core.lines(pass.task);
+        is_at(core.turn(pass.task), lines, next, pass.lines)
     }
 
     /// Whether the core agrees with a ticket.
@@ -208,10 +212,11 @@ impl<'s, J: Job, B: Ledger> Desk<'s, J, B> {
         ensures few { IsTrue result → ticket.now.lines ≤ LINE_LIMIT }
         ensures core { IsCoreOf J.script self.now }
     {
-        let _history = self.core.history();
-        let lines = self.core.lines(ticket.task);
+        let core = self.core.core();
+        let _history = core.history();
+        let lines = core.lines(ticket.task);
         is_at(
-            self.core.turn(ticket.task),
+            core.turn(ticket.task),
             lines,
             ticket.its_turn(),
             ticket.lines,
@@ -235,7 +240,8 @@ impl<'s, J: Job, B: Ledger> Desk<'s, J, B> {
         requires listed { fixed.now ++ policies.old.list ≡ specs_of self.old }
         ensures ok { IfOk result (λ outcome. Changes self.old pass.old.task outcome self.new
             × (fixed.now ++ policies.new.list ≡ specs_of self.new)
-            × StaysWhileWaiting outcome policies.old.list policies.new.list policies.old.catalogue policies.new.catalogue
+            × StaysWhileWaiting outcome
+            policies.old.list policies.new.list policies.old.catalogue policies.new.catalogue
             × (pass.new ≡ pass_changed outcome pass.old)) }
         ensures err { OnErr result ((self.new ≡ self.old) × (policies.new ≡ policies.old)
             × (pass.new ≡ record pass.old { stopped = true })) }

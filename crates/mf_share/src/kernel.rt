@@ -17,6 +17,7 @@ use crate::pass::{Job, Pass, Ticket};
 use crate::policies::Policies;
 use mf_calls::Script;
 use mf_core::{ChangeOutcome, Commit, Core, Turn};
+use mf_flow::TrackedCore;
 use mf_list::{Fixed, Listed};
 use mf_perform::Verdict;
 use mf_plan::Plan;
@@ -41,7 +42,8 @@ impl<J: Job, B: Ledger> Model for Own<J, B> {
 
     ghost view = { λ o. o.done.amount };
 
-    ghost invariant = { λ o. IsOwn J.script J.parts B.parts o.done.parts o.done.amount o.busy.parts o.busy.amount };
+    ghost invariant = { λ o.
+        IsOwn J.script J.parts B.parts o.done.parts o.done.amount o.busy.parts o.busy.amount };
 }
 
 /// One core for the tasks of a script, each with a pass in a thread of its own. `J` names the script and is the ledger
@@ -102,10 +104,11 @@ impl<'s, P: Policy, J: Job, B: Ledger> Kernel<'s, P, J, B> {
         let (busy_book, mut busy) = busy.open::<B>();
         let passes = first_passes(alloc, script, &mut done, &mut busy)?;
         let (core, fixed, list, catalogue) = Core::new(alloc, script, modules)?;
+        let tracked = TrackedCore::of(alloc, core)?;
         let kernel = Kernel {
             script,
             desk: Mutex::new(Desk {
-                core,
+                core: tracked,
                 done: done_book,
                 busy: busy_book,
             }),
@@ -269,8 +272,8 @@ impl<'s, P: Policy, J: Job, B: Ledger> Kernel<'s, P, J, B> {
         unreachable!()
     }
 
-    /// The core, once all passes are back: no entry is open, and as many lines are done as the passes say.
-    pub fn close(self, passes: Vec<Pass<J, B>>) -> Core<'s>
+    /// The core with its sources, once all passes are back: no entry is open, and as many lines are done as the passes say.
+    pub fn close(self, passes: Vec<Pass<J, B>>) -> TrackedCore<'s>
         requires count { length passes.items ≡ length J.script.tasks }
         requires each { AreBack passes.items (length J.script.tasks) }
         ensures script { result.script ≡ J.script }

@@ -16,7 +16,8 @@ ghost use Rattle.mf_top.specs.Scripts.{IsToldOf};
 use crate::refusal::Refusal;
 use crate::text::{Telling, tell};
 use mf_calls::{Script, generate};
-use mf_core::{Commit, Core, Turn};
+use mf_core::{Commit, Turn};
+use mf_flow::TrackedCore;
 use mf_io::Gate;
 use mf_list::Listed;
 use mf_plan::Plan;
@@ -80,7 +81,7 @@ fn run_core<'s, P: Policy, G: Gate, R: Threads + Wait + Sync>(
     script: &'s Script,
     gate: &G,
     modules: Vec<P>,
-) -> Result<Core<'s>, AllocError>
+) -> Result<TrackedCore<'s>, AllocError>
     requires formed { IsWellFormed script.now }
     requires modules { AreAllModules (map (λ p. module_of (P.spec p)) modules.items) }
     requires fresh { All (λ p. IsFresh (P.spec p)) modules.items }
@@ -117,7 +118,7 @@ fn run_tasks<
     modules: Vec<P>,
     lines: Blank,
     busy: Blank,
-) -> Result<Core<'s>, AllocError>
+) -> Result<TrackedCore<'s>, AllocError>
     requires formed { IsWellFormed script.now }
     requires modules { AreAllModules (map (λ p. module_of (P.spec p)) modules.items) }
     requires fresh { All (λ p. IsFresh (P.spec p)) modules.items }
@@ -143,7 +144,7 @@ fn run_tasks<
 }
 
 /// The core of a run, unless a task stopped early, which happens only where memory ran out.
-fn whole_run<'s>(core: Core<'s>, all_done: bool) -> Result<Core<'s>, AllocError>
+fn whole_run<'s>(core: TrackedCore<'s>, all_done: bool) -> Result<TrackedCore<'s>, AllocError>
     ensures { IfOk result (λ whole. IsTrue all_done × (whole ≡ core.entry)) }
 {
     if all_done { Ok(core) } else { Err(AllocError) }

@@ -16,7 +16,7 @@ use crate::refusal::Refusal;
 use mf_calls::Script;
 use mf_chains::{ChainFault, chains, print_chains};
 use mf_core::{Core, History};
-use mf_flow::{print_sources, sources};
+use mf_flow::{TrackedCore, print_sources, sources};
 use mf_hist::print_history;
 use mf_load::{summary_is_settled, summary_text};
 use mf_matrix::print_matrix;
@@ -41,7 +41,7 @@ pub fn tell<R: Threads + Sync>(
     rt: &R,
     alloc: Global,
     script: &Script,
-    core: &Core,
+    core: &TrackedCore,
     telling: Telling,
 ) -> Result<String, Refusal>
     requires formed { IsWellFormed script.now }
@@ -60,17 +60,18 @@ pub fn tell<R: Threads + Sync>(
 }
 
 /// The text of the history of a run to its end, and of the sources there.
-fn whole_text(alloc: Global, script: &Script, core: &Core) -> Result<String, AllocError>
+fn whole_text(alloc: Global, script: &Script, core: &TrackedCore) -> Result<String, AllocError>
     requires script { core.now.script ≡ script.now }
     requires entries { open_of core.now ≡ 0 }
     requires lines { done_of core.now ≡ all_lines core.now.script }
     ensures run { OnOk result (IsRun script.now core.now.history) }
     ensures text { IfOk result (λ text. string_bytes text ≡ run_text script.now core.now.history) }
 {
-    let history = core.history();
+    let history = core.core().history();
     let mut text = String::new(alloc);
     print_history(script, history, &mut text)?;
-    add_sources(alloc, script, history, &mut text)?;
+    let table = core.sources(alloc)?;
+    print_sources(&table, &mut text)?;
     Ok(text)
 }
 
@@ -79,7 +80,7 @@ fn with_matrix<R: Threads + Sync>(
     rt: &R,
     alloc: Global,
     script: &Script,
-    core: &Core,
+    core: &TrackedCore,
 ) -> Result<String, AllocError>
     requires formed { IsWellFormed script.now }
     requires script { core.now.script ≡ script.now }
@@ -88,19 +89,19 @@ fn with_matrix<R: Threads + Sync>(
     ensures { IfOk result (λ text. IsMatrixOf script.now (string_bytes text)) }
 {
     let mut text = whole_text(alloc, script, core)?;
-    print_matrix(rt, alloc, core.state(), &mut text)?;
+    print_matrix(rt, alloc, core.core().state(), &mut text)?;
     Ok(text)
 }
 
 /// The text of the run, and of the chains at its end, unless there are too many.
-fn with_chains(alloc: Global, script: &Script, core: &Core) -> Result<String, Refusal>
+fn with_chains(alloc: Global, script: &Script, core: &TrackedCore) -> Result<String, Refusal>
     requires script { core.now.script ≡ script.now }
     requires entries { open_of core.now ≡ 0 }
     requires lines { done_of core.now ≡ all_lines core.now.script }
     ensures { IsToldOf telling.Chains script.now (bytes_of_outcome result) }
 {
     let text = whole_text(alloc, script, core)?;
-    add_chains(alloc, script, core.history(), text)
+    add_chains(alloc, script, core.core().history(), text)
 }
 
 /// The text with that of the chains at the end of the history behind it, unless there are too many.
@@ -125,14 +126,19 @@ fn add_chains(
 }
 
 /// The summary of a load that was run to its end.
-fn summarize(alloc: Global, lines: u32, tasks: u32, core: &Core) -> Result<String, AllocError>
+fn summarize(
+    alloc: Global,
+    lines: u32,
+    tasks: u32,
+    core: &TrackedCore,
+) -> Result<String, AllocError>
     requires entries { open_of core.now ≡ 0 }
     requires lines { done_of core.now ≡ all_lines core.now.script }
     ensures { IsLoadOf lines tasks core.now.script
         → IfOk result (λ text. string_bytes text ≡ load_summary lines tasks) }
 {
     summary_is_settled();
-    let history = core.history();
+    let history = core.core().history();
     summary_text(alloc, lines, tasks, history.events.as_slice())
 }
 

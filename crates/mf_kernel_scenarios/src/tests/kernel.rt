@@ -113,7 +113,7 @@ pub fn changed_during_a_call<P: Policy, J: Job, B: Ledger, R: Wait + Abort>(
     drop(policies);
     let core = kernel.close(passes);
     assert!(rt; matches!(changed, Ok(Commit::Done)) && matches!(called, Ok(Commit::Done)));
-    history_text(alloc, script, &core)
+    history_text(alloc, script, core.core())
 }
 
 /// Enters for the pass, whose next line must be an entry.
