@@ -8,6 +8,7 @@ pub mod Loading
 pub mod Lowering
 pub mod Names
 pub mod Outline
+pub mod OutlineOf
 pub mod Path
 pub mod Payloads
 pub mod Places

@@ -115,7 +115,7 @@ impl Plan {
 
     /// Whether this is the plan of that outline in the present state. What costs least is compared first. Where nobody is lowered
     /// no plan is made for it.
-    pub(crate) fn is_outlined(&self, state: &State, outline: &Outline) -> bool
+    pub fn is_outlined(&self, state: &State, outline: &Outline) -> bool
         requires live { outlines.AreLive state.now.objects outline.now.checks }
         requires caller { IfSome outline.now.found.caller
             (λ id. IsSome (live_at state.now.objects id)) }

@@ -5,11 +5,11 @@ ghost use Rattle.mf_calls.specs.WellFormed.{IsFormedCall, IsName};
 ghost use Rattle.mf_plan.specs.declared.plan.Tail.TheVariants.{Do};
 ghost use Rattle.mf_objects.specs.Live.{live_at};
 ghost use Rattle.mf_plan.specs.Found.{AreFound};
-ghost use Rattle.mf_plan.specs.Outline as outlines;
-ghost use Rattle.mf_plan.specs.Plan as spec;
 ghost use Rattle.mf_plan.specs.Names.{caller_name};
+ghost use Rattle.mf_plan.specs.Outline as outlines;
+ghost use Rattle.mf_plan.specs.OutlineOf.{IsOutlineOf};
+ghost use Rattle.mf_plan.specs.Plan as spec;
 ghost use Rattle.mf_plan.specs.Views.{process_named};
-ghost use Rattle.mf_plan.specs.declared.state.State.{State};
 
 use crate::asking::ask_for;
 use crate::last_label::LastLabel;
@@ -33,8 +33,8 @@ pub fn plan_of(state: &State, task: &str, child: Option<&str>, call: &Call) -> P
 }
 
 impl Plan {
-    /// Becomes the plan of a call, as `plan_of` makes it, and has the outline say who calls, and what the call is about where it may
-    /// be done. A plan is large, and so is an outline: both are made where they lie, and never moved.
+    /// Becomes the plan of a call, as `plan_of` makes it, and the outline that of the call. A plan is large, and so is an outline: both
+    /// are made where they lie, and never moved.
     pub fn make(
         &mut self,
         state: &State,
@@ -48,18 +48,15 @@ impl Plan {
         requires formed { IsFormedCall call.now }
         ensures plan { self.new
             ≡ spec.plan_of state.now task.now (option_copied child.entry) call.now }
-        ensures found { self.new.tail ≡ Do
-            → AreFound state.now task.now (option_copied child.entry) call.now outline.new.found }
-        ensures caller { outline.new.found.caller
-            ≡ process_named state.now.objects (caller_name task.now (option_copied child.entry)) }
+        ensures outline { IsOutlineOf state.now task.now (option_copied child.entry) call.now
+            outline.new }
     {
         self.label.keep(call);
         outline.make(state, task, child, call, &self.label);
         self.fill(state, outline);
     }
 
-    /// Whether this is the plan of the call in the present state. The outline becomes that of the call; it says who calls, and where
-    /// this is the plan, what the call is about.
+    /// Whether this is the plan of the call in the present state. The outline becomes that of the call.
     pub fn is_of(
         &self,
         state: &State,
@@ -73,13 +70,8 @@ impl Plan {
         requires formed { IsFormedCall call.now }
         ensures is { IsTrue result
             ↔ (self.now ≡ spec.plan_of state.now task.now (option_copied child.entry) call.now) }
-        ensures found { self.now.tail ≡ Do → IsTrue result
-            → AreFound state.now task.now (option_copied child.entry) call.now outline.new.found }
-        ensures outline { outlines.outlined state.now.objects outline.new
-            ≡ spec.plan_in state.now
-            (spec.call_row state.now task.now (option_copied child.entry) call.now) }
-        ensures caller { outline.new.found.caller
-            ≡ process_named state.now.objects (caller_name task.now (option_copied child.entry)) }
+        ensures outline { IsOutlineOf state.now task.now (option_copied child.entry) call.now
+            outline.new }
     {
         outline.make(state, task, child, call, &self.label);
         self.is_outlined(state, outline)
@@ -97,15 +89,7 @@ pub fn outline_of(
     requires task { IsName task.now }
     requires child { IfSome (option_copied child) IsName }
     requires formed { IsFormedCall call.now }
-    ensures plan { outlines.outlined state.now.objects result
-        ≡ spec.plan_in state.now
-        (spec.call_row state.now task.now (option_copied child.entry) call.now) }
-    ensures live { outlines.AreLive state.now.objects result.checks }
-    ensures caller { result.found.caller
-        ≡ process_named state.now.objects (caller_name task.now (option_copied child.entry)) }
-    ensures lives { IfSome result.found.caller (λ id. IsSome (live_at state.now.objects id)) }
-    ensures found { result.tail ≡ Do
-        → AreFound state.now task.now (option_copied child.entry) call.now result.found }
+    ensures { IsOutlineOf state.now task.now (option_copied child.entry) call.now result }
 {
     let mut outline = Outline::new();
     outline.make(state, task, child, call, last);
