@@ -1,10 +1,12 @@
 -- What the call of a task's next line makes of a run: the reply, the state, and the list of policies after it.
 use Rattle.std.proofs.Common.{◌≡◌, ℕ, false, true, Option, Some, None, refl, sym, ◌∙◌, ap, subst}
 use Rattle.mf_core.proofs.LookedUp.{plan_at, reply_at, state_at}
-use Rattle.std.specs.Prelude.{IfSome}
+use Rattle.std.specs.Prelude.{IfSome, IsSome}
 use Rattle.mf_calls.specs.declared.script.Line.{Line}
 use Rattle.mf_calls.specs.declared.script.Script.{Script}
 use Rattle.mf_calls.specs.Tasks.{is_change, name_of}
+use Rattle.mf_objects.specs.declared.id.Id.{Id}
+use Rattle.mf_objects.specs.Live.{live_at}
 use Rattle.mf_plan.specs.declared.found.Found.{Found}
 use Rattle.mf_plan.specs.declared.outline.Outline.{Outline}
 use Rattle.mf_plan.specs.Planned.{Plan}
@@ -14,7 +16,9 @@ use Rattle.mf_plan.specs.declared.reply.Payload.{Payload}
 use Rattle.mf_plan.specs.declared.reply.Reply.{Reply}
 use Rattle.mf_plan.specs.declared.state.State.{State}
 use Rattle.mf_plan.specs.Found.{AreFound}
-use Rattle.mf_plan.specs.Plan.{plan_of, call_row}
+use Rattle.mf_plan.specs.Outline.{AreLive, outlined}
+use Rattle.mf_plan.specs.OutlineOf.{IsOutlineOf}
+use Rattle.mf_plan.specs.Plan.{plan_of, plan_in, call_row, lowering_by}
 use Rattle.mf_perform.specs.declared.verdict.Denial.{Denial}
 use Rattle.mf_perform.specs.declared.verdict.Verdict.{Verdict}
 use Rattle.mf_perform.specs.declared.relisting.Relisting.{Relisting}
@@ -27,7 +31,7 @@ use Rattle.mf_perform.proofs.Observing.{observed_change}
 use Rattle.mf_core.specs.declared.history.History.{History}
 use Rattle.mf_core.specs.declared.progress.Turn.TheVariants as turns
 use Rattle.mf_core.specs.LegalHistory.{RunState, next_line, next_reply, next_state, turn_of}
-use Rattle.mf_core.specs.NextFound.{FoundAt, IsNextFound, IsNextOutline, IsOutlineOf, OutlineAt}
+use Rattle.mf_core.specs.NextFound.{FoundAt, IsNextFound, IsNextOutline, OutlineAt}
 use Rattle.mf_core.specs.Next.{next_plan}
 use Rattle.mf_core.specs.Consistency.{IsConsistent}
 use Rattle.mf_core.specs.Relisted.{IsMade}
@@ -40,7 +44,7 @@ same_line next a b is_a is_b = cc
 same_reply : (next : Option Reply) (a b : Reply) → next ≡ Some a → next ≡ Some b → a ≡ b
 same_reply next a b is_a is_b = cc
 
-same_plan : (next : Option Plan) (a b : Plan) → next ≡ Some a → next ≡ Some b → a ≡ b
+pub same_plan : (next : Option Plan) (a b : Plan) → next ≡ Some a → next ≡ Some b → a ≡ b
 same_plan next a b is_a is_b = cc
 
 refused_tail : (tail : Tail) (p q : Payload) → is_ok (tail_reply tail p) ≡ false → is_ok (tail_reply tail q) ≡ false
@@ -64,7 +68,7 @@ module _ (s : Script) (r : RunState) (t : ℕ) (line : Line) (next : next_line s
   pub found_next : (found : Found) → AreFound r.state (name_of s t) line.child line.call found → IsNextFound s r t found
   found_next found is = subst (λ (l : Option Line). FoundAt s r t l found) (sym next) is
 
-  pub outline_next : (outline : Outline) → IsOutlineOf s r t line outline → IsNextOutline s r t outline
+  pub outline_next : (outline : Outline) → IsOutlineOf r.state (name_of s t) line.child line.call outline → IsNextOutline s r t outline
   outline_next outline is = subst (λ (l : Option Line). OutlineAt s r t l outline) (sym next) is
 
   module _ (plan : Plan) (planned : next_plan s r t ≡ Some plan) where
@@ -98,6 +102,44 @@ module _ (s : Script) (r : RunState) (t : ℕ) (line : Line) (next : next_line s
     plan_do reply replies done =
         done_do plan (verdict_of r.state.specs plan) (call_row r.state (name_of s t) line.child line.call).payload reply
         (same_reply (next_reply s r t) (reply_to plan (verdict_of r.state.specs plan).denied (call_row r.state (name_of s t) line.child line.call).payload) reply (reply_by (verdict_of r.state.specs plan) refl) replies) done
+
+-- What the outline of a task's next line says
+
+module _ (s : Script) (r : RunState) (t : ℕ) (outline : Outline) where
+  shown_at : (line : Option Line) → OutlineAt s r t line outline → plan_at s r t line ≡ Some (lowering_by r.state outline.found.caller (outlined r.state.objects outline))
+  shown_at None is = absurd is
+  shown_at (Some line) is =
+      ap (λ (c : Option Id). Some (lowering_by r.state c (plan_in r.state (call_row r.state (name_of s t) line.child line.call)))) (sym is.caller)
+      ∙ ap (λ (p : Plan). Some (lowering_by r.state outline.found.caller p)) (sym is.plan)
+
+  live_at_line : (line : Option Line) → OutlineAt s r t line outline → AreLive r.state.objects outline.checks
+  live_at_line None is = absurd is
+  live_at_line (Some line) is = is.live
+
+  lives_at_line : (line : Option Line) → OutlineAt s r t line outline → IfSome outline.found.caller (λ id. IsSome (live_at r.state.objects id))
+  lives_at_line None is = absurd is
+  lives_at_line (Some line) is = is.lives
+
+  found_at_line : (line : Option Line) → OutlineAt s r t line outline → outline.tail ≡ Do → FoundAt s r t line outline.found
+  found_at_line None is tail = is
+  found_at_line (Some line) is tail = is.found tail
+
+  module _ (is : IsNextOutline s r t outline) where
+    -- the plan of the call
+    pub shown : next_plan s r t ≡ Some (lowering_by r.state outline.found.caller (outlined r.state.objects outline))
+    shown = shown_at (next_line s r.progress t) is
+
+    pub outline_live : AreLive r.state.objects outline.checks
+    outline_live = live_at_line (next_line s r.progress t) is
+
+    pub caller_lives : IfSome outline.found.caller (λ id. IsSome (live_at r.state.objects id))
+    caller_lives = lives_at_line (next_line s r.progress t) is
+
+    -- what the call is about, where it may be done
+    pub found_by : (plan : Plan) → next_plan s r t ≡ Some plan → plan.tail ≡ Do → IsNextFound s r t outline.found
+    found_by plan planned tail =
+        let plan_is = same_plan (next_plan s r t) (lowering_by r.state outline.found.caller (outlined r.state.objects outline)) plan shown planned in
+        found_at_line (next_line s r.progress t) is (ap (λ (p : Plan). p.tail) plan_is ∙ tail)
 
 -- the call of an entry is no change
 pub entry_call : (s : Script) (h : History) (r : RunState) (t : ℕ) (line : Line) → IsConsistent s h r → turn_of s r.progress t ≡ turns.Entered

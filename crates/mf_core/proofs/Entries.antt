@@ -22,7 +22,7 @@ use Rattle.mf_core.proofs.Consistency.{consistent_first, consistent_next, each-s
 
 -- events one after the other
 
-may_come-split : (s : Script) (r : RunState) (xs ys : List Event) → AllMayCome s r (xs ++ ys) → AllMayCome s r xs × AllMayCome s (fold (run_after s) r xs) ys
+pub may_come-split : (s : Script) (r : RunState) (xs ys : List Event) → AllMayCome s r (xs ++ ys) → AllMayCome s r xs × AllMayCome s (fold (run_after s) r xs) ys
 may_come-split s r [] ys all = (tt, all)
 may_come-split s r (x ∷ xs) ys all =
     let rest = may_come-split s (run_after s r x) xs ys all.1 in ((all.0, rest.0), rest.1)

@@ -80,6 +80,10 @@ module _ (k : CoreView) (v : RunView) (h : History) (is : record { script = v.sc
   outline_same t outline is =
       subst (λ (s : Script). IsNextOutline s (run_state k) t outline) (sym script_here) (subst (λ (m : RunState). IsNextOutline v.script m t outline) (sym run_state_here) is)
 
+  pub outline_here : (t : ℕ) (outline : Outline) → IsNextOutline k.script (run_state k) t outline → IsNextOutline v.script v.run t outline
+  outline_here t outline is =
+      subst (λ (s : Script). IsNextOutline s v.run t outline) script_here (subst (λ (m : RunState). IsNextOutline k.script m t outline) run_state_here is)
+
   pub found_same : (t : ℕ) (found : Found) → IsNextFound k.script (run_state k) t found → IsNextFound v.script v.run t found
   found_same t found is =
       subst (λ (s : Script). IsNextFound s v.run t found) script_here (subst (λ (m : RunState). IsNextFound k.script m t found) run_state_here is)

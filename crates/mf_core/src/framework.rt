@@ -13,6 +13,7 @@ ghost use Rattle.mf_core.specs.declared.progress.Turn.TheVariants as turn;
 ghost use Rattle.mf_core.specs.declared.progress.Phase.TheVariants as phase;
 ghost use Rattle.mf_core.specs.LegalHistory.{IsComplete, IsLegal, next_line};
 ghost use Rattle.mf_core.specs.Next.{next_plan};
+ghost use Rattle.mf_core.specs.NextFound.{IsNextOutline};
 ghost use Rattle.mf_core.specs.Opening.{booted_specs, boots_of};
 ghost use Rattle.mf_core.specs.Policies.{AreOf, static_of};
 ghost use Rattle.mf_core.specs.AllModules.{AreAllModules};
@@ -160,14 +161,14 @@ impl<'s> Core<'s> {
         self.history.events.push(Event::Leave(task));
     }
 
-    /// Makes `plan` that of the call that the task has entered for, from the present state.
-    pub fn plan(&self, task: u32, plan: &mut Plan)
+    /// Makes `plan` that of the call that the task has entered for, from the present state, and `outline` that of the call.
+    pub fn plan(&self, task: u32, plan: &mut Plan, outline: &mut Outline)
         requires task { task < length self.now.script.tasks }
         requires turn { turn_at self.now task ≡ turn.Entered }
-        ensures { next_plan self.now.script (run_state self.now) task ≡ Some plan.new }
+        ensures plan { next_plan self.now.script (run_state self.now) task ≡ Some plan.new }
+        ensures outline { IsNextOutline self.now.script (run_state self.now) task outline.new }
     {
-        let mut outline = Outline::new();
-        self.run.plan(task, plan, &mut outline);
+        self.run.plan(task, plan, outline);
     }
 
     /// The listed policies' verdict on a plan: the first denial, if a check is denied.

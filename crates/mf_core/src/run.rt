@@ -110,28 +110,25 @@ impl<'s> Run<'s> {
         self.script.line_at(task, progress.lines)
     }
 
-    /// Makes `plan` that of the call of the task's next line, from the present state, and `outline` its outline, with what the call
-    /// is about.
+    /// Makes `plan` that of the call of the task's next line, from the present state, and `outline` its outline.
     pub fn plan(&self, task: u32, plan: &mut Plan, outline: &mut Outline)
         requires task { task < length self.now.script.tasks }
         requires line { IsSome (next_line self.now.script self.now.run.progress task) }
         ensures plan { next_plan self.now.script self.now.run task ≡ Some plan.new }
         ensures found { plan.new.tail ≡ Do
             → IsNextFound self.now.script self.now.run task outline.new.found }
+        ensures outline { IsNextOutline self.now.script self.now.run task outline.new }
     {
         let line = self.line(task);
         let name = self.script.name_of(task);
         plan.make(&self.state, name, line.child_name(), &line.call, outline);
     }
 
-    /// Whether this is the plan of the call of the task's next line in the present state. The outline becomes that of the call, with
-    /// what it is about.
+    /// Whether this is the plan of the call of the task's next line in the present state. The outline becomes that of the call.
     pub fn has_plan(&self, task: u32, plan: &Plan, outline: &mut Outline) -> bool
         requires task { task < length self.now.script.tasks }
         requires line { IsSome (next_line self.now.script self.now.run.progress task) }
         ensures is { IsTrue result ↔ (next_plan self.now.script self.now.run task ≡ Some plan.now) }
-        ensures found { plan.now.tail ≡ Do → IsTrue result
-            → IsNextFound self.now.script self.now.run task outline.new.found }
         ensures outline { IsNextOutline self.now.script self.now.run task outline.new }
     {
         let line = self.line(task);

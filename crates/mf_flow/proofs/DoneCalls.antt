@@ -37,7 +37,7 @@ use Rattle.mf_core.specs.declared.history.Event.{Event}
 use Rattle.mf_core.specs.declared.history.Event.TheVariants as event
 use Rattle.mf_core.specs.Progress.{progress_at}
 use Rattle.mf_core.specs.LegalHistory.{RunState, next_line, MayCome, run_after}
-use Rattle.mf_core.specs.NextFound.{FoundAt, IsNextFound, IsOutlineOf}
+use Rattle.mf_core.specs.NextFound.{FoundAt, IsNextFound}
 use Rattle.mf_core.proofs.SameLists.{done_tail}
 use Rattle.mf_perform.specs.Passed.{passed}
 use Rattle.mf_flow.specs.declared.following.Flow.{Flow}
@@ -53,6 +53,7 @@ use Rattle.mf_plan.specs.declared.outline.Check.{Check}
 use Rattle.mf_plan.specs.declared.outline.Outline.{Outline}
 use Rattle.mf_plan.specs.Planned.{Plan}
 use Rattle.mf_plan.specs.Outline.{item_asking, item_of}
+use Rattle.mf_plan.specs.OutlineOf.{IsOutlineOf}
 
 abbrev flow_after_line : State → State → List ℕ → Option Line → Reply → Flow → Flow
 flow_after_line s s' task found said f =
@@ -278,7 +279,7 @@ done_asked s run e t number said state task line found is may here task_is line_
 
 -- What an event makes of the sources by a policy, once its checks have moved some and entities have come or were relabelled
 module _ (s : Script) (run : RunState) (t number : ℕ) (said : Reply) (line : Line) (outline : Outline) (line_is : next_line s run.progress t ≡ Some line)
-    (is : IsOutlineOf s run t line outline) (found : is_ok said ≡ true → IsNextFound s run t outline.found) where
+    (is : IsOutlineOf run.state (name_of s t) line.child line.call outline) (found : is_ok said ≡ true → IsNextFound s run t outline.found) where
   abbrev e : Event
   e = event.Done t number said
 

@@ -16,6 +16,7 @@ use Rattle.mf_plan.specs.declared.outline.Outline.{Outline}
 use Rattle.mf_plan.specs.declared.reply.Reply.{Reply}
 use Rattle.mf_plan.specs.declared.state.State.{State}
 use Rattle.mf_plan.specs.Outline.{item_of}
+use Rattle.mf_plan.specs.OutlineOf.{IsOutlineOf}
 use Rattle.mf_perform.specs.Passed.{passed}
 use Rattle.mf_perform.specs.Refused.{is_ok}
 use Rattle.mf_core.specs.declared.progress.ChangeOutcome.{ChangeOutcome}
@@ -24,10 +25,11 @@ use Rattle.mf_core.specs.declared.history.Event.{Event}
 use Rattle.mf_core.specs.declared.history.Event.TheVariants as event
 use Rattle.mf_core.specs.declared.history.History.{History}
 use Rattle.mf_core.specs.CoreView.{Changes, CoreView, progress_of, run_state, with_next}
-use Rattle.mf_core.specs.LegalHistory.{AllMayCome, IsLegal, MayCome, RunState, next_line, next_number, opening_run, run_after, run_state_of}
-use Rattle.mf_core.specs.NextFound.{IsNextFound, IsNextOutline, IsOutlineOf, OutlineAt}
+use Rattle.mf_core.specs.LegalHistory.{IsLegal, RunState, next_line, next_number, opening_run, run_after, run_state_of}
+use Rattle.mf_core.specs.NextFound.{IsNextFound, IsNextOutline, OutlineAt}
 use Rattle.mf_core.specs.Opening.{spec_at_boot}
 use Rattle.mf_core.specs.WithEvent.{with_event}
+use Rattle.mf_core.proofs.Entries.{may_come-split}
 use Rattle.mf_core.proofs.Insides.{state_on}
 use Rattle.mf_lifetimes.proofs.Files.{all_both, all_from}
 use Rattle.mf_flow.specs.declared.following.Flow.{Flow}
@@ -42,11 +44,6 @@ use Rattle.mf_flow.proofs.Dominating.{IsSourced, all_sourced}
 use Rattle.mf_flow.proofs.Flowing.{IsFlowing, opening_flowing, run_flowing}
 use Rattle.mf_flow.proofs.Followed.{Becomes, all_flows, event_rows, kept_rows, opening_flows, opening_replayed, still_registered, unmoved}
 
--- the last of some events comes behind the others
-behind : (s : Script) (run : RunState) (es : List Event) (e : Event) → AllMayCome s run (es ++ e ∷ []) → AllMayCome s run es × MayCome s (fold (run_after s) run es) e
-behind s run [] e may = (tt, may.0)
-behind s run (x ∷ es) e may = let rest = behind s (run_after s run x) es e may.1 in ((may.0, rest.0), rest.1)
-
 sets_behind : (s : Script) (r : Registration) (run : RunState) (sets : Sets) (es : List Event) (e : Event)
     → sets_after s r run sets (es ++ e ∷ []) ≡ sets_after_event s r (fold (run_after s) run es) e (sets_after s r run sets es)
 sets_behind s r run sets [] e = refl
@@ -57,18 +54,18 @@ module _ (s : Script) (h : History) (e : Event) (formed : IsWellFormed s) (legal
   run = run_state_of s h.events.list
 
   before : IsLegal s h
-  before = record { boots = legal.boots; events = (behind s (opening_run s) h.events.list e legal.events).0 }
+  before = record { boots = legal.boots; events = (may_come-split s (opening_run s) h.events.list (e ∷ []) legal.events).0 }
 
   flow_on : (f new : Flow) → IsSourced s f.registration → Becomes s (run_state_of s h.events.list) e f new → IsFlowOf s h f → IsFlowOf s (with_event h e) new
   flow_on f new sourced becomes are =
       let r : Registration = f.registration in
       let es : List Event = h.events.list in
       let here : RunState = run_state_of s es in
-      let may = behind s (opening_run s) es e legal.events in
+      let may = may_come-split s (opening_run s) es (e ∷ []) legal.events in
       let flowing : IsFlowing sourced.policy r (spec_at_boot s r.module) here.state (sources_of s r es) =
       run_flowing sourced.policy r (spec_at_boot s r.module) s (opening_run s) (opening_sets s r) es sourced.booted.of may.0
       (opening_flowing sourced.policy r (spec_at_boot s r.module) s formed sourced.booted.of sourced.booted.pinned) in
-      let rows = event_rows sourced.policy r (spec_at_boot s r.module) s here e (sources_of s r es) f.sets may.1 flowing are in
+      let rows = event_rows sourced.policy r (spec_at_boot s r.module) s here e (sources_of s r es) f.sets may.1.0 flowing are in
       let after : AreRows (run_after s here e).state.objects (sets_after_event s r here e (sources_of s r es)) new.sets =
       kept_rows (run_after s here e).state.objects (sets_after_event s r here e (sources_of s r es)) (flow_after_event s here e f).sets new.sets becomes.sets rows in
       let at : AreRows (run_state_of s (es ++ e ∷ [])).state.objects (sources_of s r (es ++ e ∷ [])) new.sets =
@@ -131,7 +128,7 @@ sources_changed P Q k k' t (Err error) flows made failed formed legal are =
     subst (λ (x : CoreView). AreSourcesOf x.script x.history flows) (sym failed.0) are
 
 -- the outline of the call of the next line
-outline_at : (s : Script) (r : RunState) (t : ℕ) (found : Option Line) (line : Line) (outline : Outline) → found ≡ Some line → OutlineAt s r t found outline → IsOutlineOf s r t line outline
+outline_at : (s : Script) (r : RunState) (t : ℕ) (found : Option Line) (line : Line) (outline : Outline) → found ≡ Some line → OutlineAt s r t found outline → IsOutlineOf r.state (name_of s t) line.child line.call outline
 outline_at s r t found line outline is at = subst (λ (x : Option Line). OutlineAt s r t x outline) is at
 
 -- A call is committed: what its checks moved that passed was noted, and then what is left of it.

@@ -1,8 +1,9 @@
 //! A core with the sources along its history: what each call moves is noted as the call is committed.
-ghost use Rattle.std.specs.Prelude.{◌≡◌, ◌+◌, ◌<◌, ◌⊎◌, [], false, true, length, map, IfOk, IsOk, IsTrue, OnErr, OnOk, Some};
+ghost use Rattle.std.specs.Prelude.{◌≡◌, ◌+◌, ◌<◌, ◌⊎◌, ◌↔◌, [], false, true, length, map, IfOk, IsOk, IsTrue, OnErr, OnOk, Some};
 ghost use Rattle.std.specs.List.{AllByRecursion};
 ghost use Rattle.std.specs.Option.{option_zip};
 ghost use Rattle.mf_calls.specs.WellFormed.{IsFormedLine, IsName};
+ghost use Rattle.mf_plan.specs.declared.plan.Tail.TheVariants.{Do};
 ghost use Rattle.mf_plan.specs.declared.reply.Payload.TheVariants as payload;
 ghost use Rattle.mf_plan.specs.declared.reply.Reply.{Reply};
 ghost use Rattle.mf_plan.specs.Outline.{item_of};
@@ -15,8 +16,9 @@ ghost use Rattle.mf_core.specs.declared.progress.Commit.TheVariants as commit;
 ghost use Rattle.mf_core.specs.declared.progress.Phase.TheVariants as phase;
 ghost use Rattle.mf_core.specs.declared.progress.Turn.TheVariants as turn;
 ghost use Rattle.mf_core.specs.Advances.{Advances, left};
-ghost use Rattle.mf_core.specs.CoreView.{AdvancesBy, AdvancesOn, Changes, Commits, done_of, lines_changed, lines_left, progress_of, run_state, specs_of, turn_at, with_next};
+ghost use Rattle.mf_core.specs.CoreView.{AdvancesBy, AdvancesOn, Changes, Commits, IsCurrent, done_of, lines_changed, lines_left, progress_of, run_state, specs_of, turn_at, with_next};
 ghost use Rattle.mf_core.specs.LegalHistory.{next_number, next_reply};
+ghost use Rattle.mf_core.specs.Next.{next_plan};
 ghost use Rattle.mf_core.specs.NextFound.{IsNextFound, IsNextOutline};
 ghost use Rattle.mf_core.specs.Policies.{AreOf, StaysWhileWaiting};
 ghost use Rattle.mf_core.specs.Progress.{progress_at};
@@ -44,21 +46,25 @@ pub struct TrackedCore<'s> {
     flows: Vec<Flow>,
     /// Whether the flows are those of the history. They no longer are once memory ran out for them.
     is_tracked: bool,
-    /// That of the last call, whose room is used again.
+    /// That of the last call that was planned or compared, whose room is used again.
     outline: Outline,
+    /// The task whose call was planned last, if nothing has happened since: the outline is that of its call.
+    planned: Option<u32>,
 }
 
 impl<'s> Model for TrackedCore<'s> {
-    ghost use Rattle.std.specs.Prelude.{IsTrue};
-    ghost use Rattle.mf_core.specs.CoreView.{CoreView};
+    ghost use Rattle.std.specs.Prelude.{IfSome, IsTrue};
+    ghost use Rattle.mf_core.specs.CoreView.{CoreView, run_state};
+    ghost use Rattle.mf_core.specs.NextFound.{IsNextOutline};
     ghost use Rattle.mf_flow.specs.Rows.{AreSourcesOf};
 
     ghost Value = { CoreView };
 
     ghost view = { λ t. t.core };
 
-    ghost invariant = { λ t. IsTrue t.is_tracked
-        → AreSourcesOf t.core.script t.core.history t.flows.items };
+    ghost invariant = { λ t.
+        (IsTrue t.is_tracked → AreSourcesOf t.core.script t.core.history t.flows.items)
+        × IfSome t.planned (λ task. IsNextOutline t.core.script (run_state t.core) task t.outline) };
 }
 
 impl<'s> TrackedCore<'s> {
@@ -76,6 +82,7 @@ impl<'s> TrackedCore<'s> {
             flows,
             is_tracked,
             outline: Outline::new(),
+            planned: None,
         })
     }
 
@@ -108,6 +115,7 @@ impl<'s> TrackedCore<'s> {
             (record (progress_at (progress_of self.old) task) { phase = phase.Entered }) }
         ensures lines { done_of self.new ≡ done_of self.old }
     {
+        self.planned = None;
         self.core.enter(task);
         let _history = self.core.history();
     }
@@ -122,8 +130,20 @@ impl<'s> TrackedCore<'s> {
             (left (progress_at (progress_of self.old) task)) }
         ensures lines { done_of self.new ≡ done_of self.old + lines_left (turn_at self.old task) }
     {
+        self.planned = None;
         self.core.leave(task);
         let _history = self.core.history();
+    }
+
+    /// Makes `plan` that of the call that the task has entered for, as `Core::plan` does.
+    pub fn plan(&mut self, task: u32, plan: &mut Plan)
+        requires task { task < length self.old.script.tasks }
+        requires turn { turn_at self.old task ≡ turn.Entered }
+        ensures plan { next_plan self.old.script (run_state self.old) task ≡ Some plan.new }
+        ensures same { self.new ≡ self.old }
+    {
+        self.core.plan(task, plan, &mut self.outline);
+        self.planned = Some(task);
     }
 
     /// Commits the call that the task has entered for, as `Core::done` does, and notes what it moves. The error is want of memory
@@ -148,8 +168,10 @@ impl<'s> TrackedCore<'s> {
         ensures memory { is_ok (reply_to plan.now verdict.now.denied payload.None) ≡ false
             → IsOk result }
     {
+        let is_planned = is_for(self.planned, task);
+        self.planned = None;
         let outline = &mut self.outline;
-        if !self.core.is_current(task, list, plan, outline) {
+        if !is_current(&self.core, task, list, plan, is_planned, outline) {
             return Ok(Commit::Stale);
         }
         let reply = self.core.reply(alloc, task, plan, &outline.found, verdict)?;
@@ -191,9 +213,44 @@ impl<'s> TrackedCore<'s> {
             → next_reply self.old.script (run_state self.old) task ≡ Some reply
             → is_ok reply ≡ false → IsOk result }
     {
+        self.planned = None;
         let outcome = self.core.change(alloc, task, fixed, list, catalogue);
         let _history = self.core.history();
         outcome
+    }
+}
+
+/// Whether the task was planned for last.
+fn is_for(planned: Option<u32>, task: u32) -> bool
+    ensures { IsTrue result ↔ (planned ≡ Some task) }
+{
+    planned == Some(task)
+}
+
+/// Whether the plan and the listed policies are those of now, as `Core::is_current` says. Where the outline is still that of the task's
+/// call, it isn't made again.
+fn is_current<P: Policy>(
+    core: &Core,
+    task: u32,
+    list: &Listed<'_, P>,
+    plan: &Plan,
+    is_planned: bool,
+    outline: &mut Outline,
+) -> bool
+    requires task { task < length core.now.script.tasks }
+    requires turn { turn_at core.now task ≡ turn.Entered }
+    requires planned { IsTrue is_planned
+        → IsNextOutline core.now.script (run_state core.now) task outline.old }
+    ensures is { IsTrue result ↔ IsCurrent core.now task list.now plan.now }
+    ensures found { plan.now.tail ≡ Do → IsTrue result
+        → IsNextFound core.now.script (run_state core.now) task outline.new.found }
+    ensures outline { IsTrue result
+        → IsNextOutline core.now.script (run_state core.now) task outline.new }
+{
+    if is_planned {
+        core.is_still(task, list, plan, outline)
+    } else {
+        core.is_current(task, list, plan, outline)
     }
 }
 

@@ -14,7 +14,7 @@ use mf_calls::{Script, Step, StepKind};
 use mf_core::{ChangeOutcome, Commit, Core, Event, Turn};
 use mf_hist::print_event;
 use mf_list::{Catalogue, Fixed, Listed, PolicyList};
-use mf_plan::Plan;
+use mf_plan::{Outline, Plan};
 use mf_policy::Policy;
 use std::alloc::{AllocError, Global};
 use std::marker::Model;
@@ -163,7 +163,7 @@ impl<'s, P: Policy> Stepper<'s, P> {
             (step_run self.new) }
     {
         let mut plan = Plan::new();
-        self.core.plan(task, &mut plan);
+        self.core.plan(task, &mut plan, &mut Outline::new());
         let listed = Listed::new(&self.fixed, &self.list);
         let verdict = Core::walk(&listed, &plan);
         self.kept.keep(task as usize, KeptPlan { plan, verdict });

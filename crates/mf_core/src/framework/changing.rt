@@ -61,7 +61,7 @@ impl<'s> Core<'s> {
     }
 
     /// Whether the plan is that of the task's call, and the lists have the policies and specs of the core's state. Then the outline
-    /// becomes that of the call, with what it is about.
+    /// becomes that of the call.
     pub fn is_current<P: Policy>(
         &self,
         task: u32,
@@ -83,8 +83,28 @@ impl<'s> Core<'s> {
         self.run.has_plan(task, plan, outline)
     }
 
+    /// Whether the plan is that of the task's call, whose outline this is, and the lists have the policies and specs of the core's state.
+    pub fn is_still<P: Policy>(
+        &self,
+        task: u32,
+        list: &Listed<'_, P>,
+        plan: &Plan,
+        outline: &Outline,
+    ) -> bool
+        requires { IsNextOutline self.now.script (run_state self.now) task outline.now }
+        ensures is { IsTrue result ↔ IsCurrent self.now task list.now plan.now }
+        ensures found { plan.now.tail ≡ Do → IsTrue result
+            → IsNextFound self.now.script (run_state self.now) task outline.now.found }
+    {
+        let state = self.run.state();
+        if !list.same_specs(&state.specs) {
+            return false;
+        }
+        plan.is_outlined(state, outline)
+    }
+
     /// The reply to the call that the task has entered for. The plan, what was found as it was compared, and the verdict of
-    /// the listed policies on it are those of now.
+    /// the listed policies on it are those of now. The error is want of memory.
     pub fn reply(
         &self,
         alloc: Global,
@@ -111,7 +131,7 @@ impl<'s> Core<'s> {
         self.run.reply(alloc, task, plan, found, verdict)
     }
 
-    /// Commits the call that the task has entered for, with this reply to it. If memory runs out, nothing changes.
+    /// Commits the call that the task has entered for, with this reply to it. The error is want of memory; then nothing changes.
     pub fn commit(
         &mut self,
         alloc: Global,

@@ -1,7 +1,16 @@
-use Rattle.std.proofs.Common.{◌≡◌, false, true, List, ap, ◌∙◌}
+use Rattle.std.proofs.Common.{◌≡◌, ℕ, false, true, List, Option, ap, subst, ◌∙◌}
+use Rattle.std.specs.Prelude.{IfSome}
 use Rattle.mf_policy.specs.Registration.{Entry}
 use Rattle.mf_perform.specs.Verdict.{verdict_of}
+use Rattle.mf_core.specs.CoreView.{run_state}
+use Rattle.mf_core.specs.NextFound.{IsNextOutline}
 use Rattle.mf_flow.proofs.tracking.TrackedCore.done.Goals as goal
+
+-- the outline is still that of the call which was planned last
+pub is_current-requires-clause-planned : goal.is_current-requires-clause-planned
+is_current-requires-clause-planned g c = λ _ _ yes.
+    subst (λ (planned : Option ℕ). IfSome planned (λ task. IsNextOutline c.self.inside.core.script (run_state c.self.inside.core) task c.self.inside.outline))
+    (c.is_for-is_planned.ensures.0 yes) c.self.invariant.1
 
 pub reply-requires-clause-plan : goal.reply-requires-clause-plan
 reply-requires-clause-plan g c = (c.is_current.ensures.is.0 c.if-not-is_current.false).0

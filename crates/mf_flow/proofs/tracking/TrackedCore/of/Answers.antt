@@ -11,7 +11,10 @@ opening_flows-requires c =
     (c.deref.ensures.value ∙ c.in_ok-booted.ensures ∙ ap (λ (h : History). sourced h.boots) c.history.ensures.value)
 
 pub invariant_of-result : goal.invariant_of-result
-invariant_of-result c = λ yes.
-    sources_first c.args.core.script c.args.core.history c.state.result.now c.in_ok-flows.flows.items c.history.ensures.formed c.history.ensures.legal c.requires c.state.ensures
-    (c.in_ok-flows.ensures.registrations ∙ c.deref.ensures.value ∙ c.in_ok-booted.ensures ∙ ap (λ (h : History). sourced h.boots) c.history.ensures.value)
-    c.in_ok-flows.ensures.opening
+invariant_of-result c = (
+  λ yes.
+      sources_first c.args.core.script c.args.core.history c.state.result.now c.in_ok-flows.flows.items c.history.ensures.formed c.history.ensures.legal c.requires c.state.ensures
+      (c.in_ok-flows.ensures.registrations ∙ c.deref.ensures.value ∙ c.in_ok-booted.ensures ∙ ap (λ (h : History). sourced h.boots) c.history.ensures.value)
+      c.in_ok-flows.ensures.opening,
+  tt,
+)

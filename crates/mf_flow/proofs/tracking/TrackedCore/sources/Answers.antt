@@ -38,7 +38,7 @@ returns-then-not-is_tracked-clause-order c =
 pub returns-clause-table : goal.returns-clause-table
 returns-clause-table c =
     let core = c.self.inside.core in
-    let are = c.self.invariant c.if-not-is_tracked.false in
+    let are = c.self.invariant.0 c.if-not-is_tracked.false in
     let flows = c.deref.result.now in
     subst (λ (k : CoreView). IfOk c.list_flows.result (λ table. table ≡ table_of k.script k.history)) c.self.view_is
     (whole_table core.script core.history (sourced core.history.boots) flows c.list_flows.result refl

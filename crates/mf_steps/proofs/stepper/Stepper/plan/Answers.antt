@@ -25,5 +25,5 @@ pub returns-clause-does : goal.returns-clause-does
 returns-clause-does g c =
     let inside : StepperView = record { core = c.self.inside.core; kept = c.self.inside.kept } in
     subst (λ (old : StepperView). KeepsPlan old.core.script (step_run old) c.args.task [] (step_run (record inside { kept = c.keep.new.self }))) c.self.view_is
-    (planned inside c.args.task c.plan.new.plan c.walk-verdict.result c.keep.new.self c.plan.ensures
+    (planned inside c.args.task c.plan.new.plan c.walk-verdict.result c.keep.new.self c.plan.ensures.plan
     (c.walk-verdict.ensures ∙ ap (λ entries. verdict_of entries c.plan.new.plan) (c.new-listed.ensures.entries ∙ c.self.invariant.policies.listed)) c.keep.ensures)
