@@ -31,7 +31,7 @@ use std::sync::ledger::{Book, Ledger};
 /// pass or the ticket says.
 #[derive(Drop)]
 pub struct Desk<'s, J: Job, B: Ledger> {
-    pub(crate) core: TrackedCore<'s>,
+    pub(crate) tracked: TrackedCore<'s>,
     pub(crate) done: Book<J>,
     pub(crate) busy: Book<B>,
 }
@@ -43,10 +43,10 @@ impl<'s, J: Job, B: Ledger> Model for Desk<'s, J, B> {
 
     ghost Value = { CoreView };
 
-    ghost view = { λ d. d.core };
+    ghost view = { λ d. d.tracked };
 
-    ghost invariant = { λ d. (d.core.script ≡ J.script) × (d.done.total ≡ done_of d.core)
-        × (d.busy.total ≡ open_weight J.script d.core) };
+    ghost invariant = { λ d. (d.tracked.script ≡ J.script) × (d.done.total ≡ done_of d.tracked)
+        × (d.busy.total ≡ open_weight J.script d.tracked) };
 }
 
 impl<'s, J: Job, B: Ledger> Desk<'s, J, B> {
@@ -55,7 +55,7 @@ impl<'s, J: Job, B: Ledger> Desk<'s, J, B> {
         ensures value { result ≡ open_of self.now }
         ensures script { self.now.script ≡ J.script }
     {
-        self.core.core().open_entries()
+        self.tracked.core().open_entries()
     }
 
     /// Begins an entry of the pass's task. None where the core doesn't agree with the pass; then nothing changes.
@@ -72,24 +72,25 @@ impl<'s, J: Job, B: Ledger> Desk<'s, J, B> {
         if !self.agrees_with(pass, Turn::Entry) {
             return None;
         }
-        self.core.enter(pass.task());
+        self.tracked.enter(pass.task());
         Some(pass.ticket(&mut self.busy))
     }
 
     /// Makes `plan` that of the ticket's call, from the present state. False where the core doesn't agree with the ticket;
     /// then nothing changes.
-    pub fn plan(&self, ticket: &Ticket<J, B>, plan: &mut Plan) -> bool
+    pub fn plan(&mut self, ticket: &Ticket<J, B>, plan: &mut Plan) -> bool
         requires { ticket.now.committed ≡ false }
-        ensures made { IsTrue result → AgreesWithTicket self.now ticket.now
-            × (next_plan self.now.script (run_state self.now) ticket.now.task ≡ Some plan.new) }
-        ensures none { result ≡ false → ¬ AgreesWithTicket self.now ticket.now
+        ensures made { IsTrue result → AgreesWithTicket self.old ticket.now
+            × (next_plan self.old.script (run_state self.old) ticket.now.task ≡ Some plan.new) }
+        ensures none { result ≡ false → ¬ AgreesWithTicket self.old ticket.now
             × (plan.new ≡ plan.old) }
-        ensures core { IsCoreOf J.script self.now }
+        ensures same { self.new ≡ self.old }
+        ensures core { IsCoreOf J.script self.old }
     {
         if !self.agrees_with_ticket(ticket) {
             return false;
         }
-        self.core.core().plan(ticket.task(), plan);
+        self.tracked.plan(ticket.task(), plan);
         true
     }
 
@@ -123,7 +124,9 @@ impl<'s, J: Job, B: Ledger> Desk<'s, J, B> {
         if !self.agrees_with_ticket(ticket) {
             return Ok(None);
         }
-        let commit = self.core.done(alloc, ticket.task(), list, plan, verdict)?;
+        let commit = self
+            .tracked
+            .done(alloc, ticket.task(), list, plan, verdict)?;
         ticket.commit(&mut self.busy, &commit);
         Ok(Some(commit))
     }
@@ -144,7 +147,7 @@ impl<'s, J: Job, B: Ledger> Desk<'s, J, B> {
         if !self.agrees_with_ticket(&ticket) {
             return Err(ticket);
         }
-        self.core.leave(ticket.task());
+        self.tracked.leave(ticket.task());
         pass.spend(ticket, &mut self.done, &mut self.busy);
         Ok(())
     }
@@ -184,7 +187,7 @@ impl<'s, J: Job, B: Ledger> Desk<'s, J, B> {
         ensures core { IsCoreOf J.script self.old }
     {
         if !self.agrees_with(pass, Turn::Change)
-            || !Listed::new(fixed, policies.list()).same_specs(&self.core.core().state().specs)
+            || !Listed::new(fixed, policies.list()).same_specs(&self.tracked.core().state().specs)
         {
             return Ok(None);
         }
@@ -199,7 +202,7 @@ impl<'s, J: Job, B: Ledger> Desk<'s, J, B> {
         ensures few { IsTrue result → pass.now.lines ≤ LINE_LIMIT }
         ensures core { IsCoreOf J.script self.now }
     {
-        let core = self.core.core();
+        let core = self.tracked.core();
         let _history = core.history();
         let lines = core.lines(pass.task);
         is_at(core.turn(pass.task), lines, next, pass.lines)
@@ -212,7 +215,7 @@ impl<'s, J: Job, B: Ledger> Desk<'s, J, B> {
         ensures few { IsTrue result → ticket.now.lines ≤ LINE_LIMIT }
         ensures core { IsCoreOf J.script self.now }
     {
-        let core = self.core.core();
+        let core = self.tracked.core();
         let _history = core.history();
         let lines = core.lines(ticket.task);
         is_at(
@@ -250,7 +253,9 @@ impl<'s, J: Job, B: Ledger> Desk<'s, J, B> {
             → is_ok reply ≡ false → IsOk result }
     {
         let (list, catalogue) = (&mut policies.list, &mut policies.catalogue);
-        let outcome = self.core.change(alloc, pass.task(), fixed, list, catalogue);
+        let outcome = self
+            .tracked
+            .change(alloc, pass.task(), fixed, list, catalogue);
         pass.note(&mut self.done, &outcome);
         outcome
     }

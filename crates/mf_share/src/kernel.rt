@@ -108,7 +108,7 @@ impl<'s, P: Policy, J: Job, B: Ledger> Kernel<'s, P, J, B> {
         let kernel = Kernel {
             script,
             desk: Mutex::new(Desk {
-                core: tracked,
+                tracked,
                 done: done_book,
                 busy: busy_book,
             }),
@@ -289,7 +289,7 @@ impl<'s, P: Policy, J: Job, B: Ledger> Kernel<'s, P, J, B> {
             own,
         } = self;
         let Desk {
-            core,
+            tracked,
             done: mut done_book,
             busy: mut busy_book,
         } = desk.into_inner();
@@ -297,7 +297,7 @@ impl<'s, P: Policy, J: Job, B: Ledger> Kernel<'s, P, J, B> {
         take_back(passes, &mut done, &mut busy);
         done_book.audit(&mut done);
         busy_book.audit(&mut busy);
-        core
+        tracked
     }
 }
 

@@ -41,36 +41,36 @@ pub fn tell<R: Threads + Sync>(
     rt: &R,
     alloc: Global,
     script: &Script,
-    core: &TrackedCore,
+    tracked: &TrackedCore,
     telling: Telling,
 ) -> Result<String, Refusal>
     requires formed { IsWellFormed script.now }
-    requires script { core.now.script ≡ script.now }
-    requires entries { open_of core.now ≡ 0 }
-    requires lines { done_of core.now ≡ all_lines core.now.script }
+    requires script { tracked.now.script ≡ script.now }
+    requires entries { open_of tracked.now ≡ 0 }
+    requires lines { done_of tracked.now ≡ all_lines tracked.now.script }
     ensures { IsToldOf telling script.now (bytes_of_outcome result) }
 {
     let text = match telling {
-        Telling::Run => whole_text(alloc, script, core)?,
-        Telling::Matrix => with_matrix(rt, alloc, script, core)?,
-        Telling::Chains => return with_chains(alloc, script, core),
-        Telling::Load(lines, tasks) => summarize(alloc, lines, tasks, core)?,
+        Telling::Run => whole_text(alloc, script, tracked)?,
+        Telling::Matrix => with_matrix(rt, alloc, script, tracked)?,
+        Telling::Chains => return with_chains(alloc, script, tracked),
+        Telling::Load(lines, tasks) => summarize(alloc, lines, tasks, tracked)?,
     };
     Ok(text)
 }
 
 /// The text of the history of a run to its end, and of the sources there.
-fn whole_text(alloc: Global, script: &Script, core: &TrackedCore) -> Result<String, AllocError>
-    requires script { core.now.script ≡ script.now }
-    requires entries { open_of core.now ≡ 0 }
-    requires lines { done_of core.now ≡ all_lines core.now.script }
-    ensures run { OnOk result (IsRun script.now core.now.history) }
-    ensures text { IfOk result (λ text. string_bytes text ≡ run_text script.now core.now.history) }
+fn whole_text(alloc: Global, script: &Script, tracked: &TrackedCore) -> Result<String, AllocError>
+    requires script { tracked.now.script ≡ script.now }
+    requires entries { open_of tracked.now ≡ 0 }
+    requires lines { done_of tracked.now ≡ all_lines tracked.now.script }
+    ensures run { OnOk result (IsRun script.now tracked.now.history) }
+    ensures text { IfOk result (λ text. string_bytes text ≡ run_text script.now tracked.now.history) }
 {
-    let history = core.core().history();
+    let history = tracked.core().history();
     let mut text = String::new(alloc);
     print_history(script, history, &mut text)?;
-    let table = core.sources(alloc)?;
+    let table = tracked.sources(alloc)?;
     print_sources(&table, &mut text)?;
     Ok(text)
 }
@@ -80,28 +80,28 @@ fn with_matrix<R: Threads + Sync>(
     rt: &R,
     alloc: Global,
     script: &Script,
-    core: &TrackedCore,
+    tracked: &TrackedCore,
 ) -> Result<String, AllocError>
     requires formed { IsWellFormed script.now }
-    requires script { core.now.script ≡ script.now }
-    requires entries { open_of core.now ≡ 0 }
-    requires lines { done_of core.now ≡ all_lines core.now.script }
+    requires script { tracked.now.script ≡ script.now }
+    requires entries { open_of tracked.now ≡ 0 }
+    requires lines { done_of tracked.now ≡ all_lines tracked.now.script }
     ensures { IfOk result (λ text. IsMatrixOf script.now (string_bytes text)) }
 {
-    let mut text = whole_text(alloc, script, core)?;
-    print_matrix(rt, alloc, core.core().state(), &mut text)?;
+    let mut text = whole_text(alloc, script, tracked)?;
+    print_matrix(rt, alloc, tracked.core().state(), &mut text)?;
     Ok(text)
 }
 
 /// The text of the run, and of the chains at its end, unless there are too many.
-fn with_chains(alloc: Global, script: &Script, core: &TrackedCore) -> Result<String, Refusal>
-    requires script { core.now.script ≡ script.now }
-    requires entries { open_of core.now ≡ 0 }
-    requires lines { done_of core.now ≡ all_lines core.now.script }
+fn with_chains(alloc: Global, script: &Script, tracked: &TrackedCore) -> Result<String, Refusal>
+    requires script { tracked.now.script ≡ script.now }
+    requires entries { open_of tracked.now ≡ 0 }
+    requires lines { done_of tracked.now ≡ all_lines tracked.now.script }
     ensures { IsToldOf telling.Chains script.now (bytes_of_outcome result) }
 {
-    let text = whole_text(alloc, script, core)?;
-    add_chains(alloc, script, core.core().history(), text)
+    let text = whole_text(alloc, script, tracked)?;
+    add_chains(alloc, script, tracked.core().history(), text)
 }
 
 /// The text with that of the chains at the end of the history behind it, unless there are too many.
@@ -130,15 +130,15 @@ fn summarize(
     alloc: Global,
     lines: u32,
     tasks: u32,
-    core: &TrackedCore,
+    tracked: &TrackedCore,
 ) -> Result<String, AllocError>
-    requires entries { open_of core.now ≡ 0 }
-    requires lines { done_of core.now ≡ all_lines core.now.script }
-    ensures { IsLoadOf lines tasks core.now.script
+    requires entries { open_of tracked.now ≡ 0 }
+    requires lines { done_of tracked.now ≡ all_lines tracked.now.script }
+    ensures { IsLoadOf lines tasks tracked.now.script
         → IfOk result (λ text. string_bytes text ≡ load_summary lines tasks) }
 {
     summary_is_settled();
-    let history = core.core().history();
+    let history = tracked.core().history();
     summary_text(alloc, lines, tasks, history.events.as_slice())
 }
 

@@ -16,12 +16,12 @@ invariant_of-self-then-not-agrees_with_ticket g c = (c.self.invariant.0, c.self.
 
 pub returns-then-not-agrees_with_ticket-clause-entries : goal.returns-then-not-agrees_with_ticket-clause-entries
 returns-then-not-agrees_with_ticket-clause-entries g c =
-    let counted = counted_open g.J.Job.script c.self.inside.core _ _ _ _ c.audit.ensures.bound refl c.self.invariant.2 in
+    let counted = counted_open g.J.Job.script c.self.inside.tracked _ _ _ _ c.audit.ensures.bound refl c.self.invariant.2 in
     omega (arith, counted, ap open_of c.self.view_is)
 
 pub returns-then-not-agrees_with_ticket-clause-none : goal.returns-then-not-agrees_with_ticket-clause-none
 returns-then-not-agrees_with_ticket-clause-none g c = (
-  ticket_not_here c.agrees_with_ticket.result c.self.inside.core c.args.self.now c.audit.new.self c.args.ticket.now c.self.view_is c.audit.ensures.ticket
+  ticket_not_here c.agrees_with_ticket.result c.self.inside.tracked c.args.self.now c.audit.new.self c.args.ticket.now c.self.view_is c.audit.ensures.ticket
       c.agrees_with_ticket.ensures.agrees c.if-not-agrees_with_ticket.true,
   c.self.view_is,
   c.audit.ensures.ticket,
@@ -36,12 +36,12 @@ done-requires-clause-task g c κs within = omega (arith, c.task.ensures, c.agree
 
 pub done-requires-clause-turn : goal.done-requires-clause-turn
 done-requires-clause-turn g c κs within =
-    ticket_says c.self.inside.core c.self.inside.core c.audit.new.self c.task.result refl c.task.ensures (c.agrees_with_ticket.ensures.agrees.0 c.if-not-agrees_with_ticket.false)
+    ticket_says c.self.inside.tracked c.self.inside.tracked c.audit.new.self c.task.result refl c.task.ensures (c.agrees_with_ticket.ensures.agrees.0 c.if-not-agrees_with_ticket.false)
     ∙ ap ticket_turn (ap (λ (t : TicketView). t.committed) c.audit.ensures.ticket ∙ c.requires.undone)
 
 pub invariant_of-self-in_err-commit : goal.invariant_of-self-in_err-commit
 invariant_of-self-in_err-commit g c =
-    let same : c.done.new.self ≡ c.self.inside.core = c.in_err-commit.ensures.err in (
+    let same : c.done.new.self ≡ c.self.inside.tracked = c.in_err-commit.ensures.err in (
       ap (λ (run : CoreView). run.script) same ∙ c.self.invariant.0,
       c.self.invariant.1 ∙ ap done_of (sym same),
       c.audit.ensures.total ∙ c.self.invariant.2 ∙ ap (open_weight g.J.Job.script) (sym same),
@@ -49,13 +49,13 @@ invariant_of-self-in_err-commit g c =
 
 pub returns-in_err-commit-clause-entries : goal.returns-in_err-commit-clause-entries
 returns-in_err-commit-clause-entries g c =
-    let counted = counted_open g.J.Job.script c.self.inside.core _ _ _ _ c.audit.ensures.bound refl c.self.invariant.2 in
+    let counted = counted_open g.J.Job.script c.self.inside.tracked _ _ _ _ c.audit.ensures.bound refl c.self.invariant.2 in
     omega (arith, counted, ap open_of c.self.view_is)
 
 pub returns-in_err-commit-clause-err : goal.returns-in_err-commit-clause-err
 returns-in_err-commit-clause-err g c =
     let all : AgreesWithTicket c.args.self.now c.args.ticket.now × (c.done.new.self ≡ c.args.self.now) × (c.audit.new.self ≡ c.args.ticket.now) = (
-      ticket_here c.self.inside.core c.args.self.now c.audit.new.self c.args.ticket.now c.self.view_is c.audit.ensures.ticket (c.agrees_with_ticket.ensures.agrees.0 c.if-not-agrees_with_ticket.false),
+      ticket_here c.self.inside.tracked c.args.self.now c.audit.new.self c.args.ticket.now c.self.view_is c.audit.ensures.ticket (c.agrees_with_ticket.ensures.agrees.0 c.if-not-agrees_with_ticket.false),
       c.in_err-commit.ensures.err ∙ c.self.view_is,
       c.audit.ensures.ticket,
     ) in
@@ -69,7 +69,7 @@ commit-requires g c = ap (λ (t : TicketView). t.committed) c.audit.ensures.tick
 
 pub invariant_of-self-2 : goal.invariant_of-self-2
 invariant_of-self-2 g c =
-    let core = c.self.inside.core in
+    let core = c.self.inside.tracked in
     let by = c.in_ok-commit.commit in
     let undone : c.audit.new.self.committed ≡ false = ap (λ (t : TicketView). t.committed) c.audit.ensures.ticket ∙ c.requires.undone in
     let is : turn_at core c.task.result ≡ turn.Entered =
@@ -84,16 +84,16 @@ invariant_of-self-2 g c =
 
 pub returns-clause-entries : goal.returns-clause-entries
 returns-clause-entries g c =
-    let counted = counted_open g.J.Job.script c.self.inside.core _ _ _ _ c.audit.ensures.bound refl c.self.invariant.2 in
+    let counted = counted_open g.J.Job.script c.self.inside.tracked _ _ _ _ c.audit.ensures.bound refl c.self.invariant.2 in
     omega (arith, counted, ap open_of c.self.view_is)
 
 pub returns-clause-some : goal.returns-clause-some
 returns-clause-some g c =
     let by = c.in_ok-commit.commit in (
-      ticket_here c.self.inside.core c.args.self.now c.audit.new.self c.args.ticket.now c.self.view_is c.audit.ensures.ticket
+      ticket_here c.self.inside.tracked c.args.self.now c.audit.new.self c.args.ticket.now c.self.view_is c.audit.ensures.ticket
           (c.agrees_with_ticket.ensures.agrees.0 c.if-not-agrees_with_ticket.false),
       subst (λ (run : CoreView). Commits run c.args.ticket.now.task c.args.list.now c.args.plan.now by c.done.new.self) c.self.view_is
-          (subst (λ (t : ℕ). Commits c.self.inside.core t c.args.list.now c.args.plan.now by c.done.new.self) (c.task.ensures ∙ ap (λ (t : TicketView). t.task) c.audit.ensures.ticket)
+          (subst (λ (t : ℕ). Commits c.self.inside.tracked t c.args.list.now c.args.plan.now by c.done.new.self) (c.task.ensures ∙ ap (λ (t : TicketView). t.task) c.audit.ensures.ticket)
           c.in_ok-commit.ensures.commit),
       c.commit.ensures.ticket ∙ ap (ticket_after by) c.audit.ensures.ticket,
     )

@@ -8,12 +8,12 @@ use Rattle.mf_share.proofs.desk.Desk.enter.Goals as goal
 
 pub enter-requires-clause-turn : goal.enter-requires-clause-turn
 enter-requires-clause-turn g c =
-    pass_says g.J.Job.script c.self.inside.core c.args.self.now c.args.pass.now c.task.result turn.Entry c.self.view_is c.self.invariant.0 c.task.ensures c.requires.turn
+    pass_says g.J.Job.script c.self.inside.tracked c.args.self.now c.args.pass.now c.task.result turn.Entry c.self.view_is c.self.invariant.0 c.task.ensures c.requires.turn
     (c.agrees_with.ensures.agrees.0 c.if-not-agrees_with.false)
 
 pub invariant_of-self : goal.invariant_of-self
 invariant_of-self g c =
-    let core = c.self.inside.core in
+    let core = c.self.inside.tracked in
     let is : turn_at core c.task.result ≡ turn.Entry =
     pass_says g.J.Job.script core c.args.self.now c.args.pass.now c.task.result turn.Entry c.self.view_is c.self.invariant.0 c.task.ensures c.requires.turn
     (c.agrees_with.ensures.agrees.0 c.if-not-agrees_with.false) in

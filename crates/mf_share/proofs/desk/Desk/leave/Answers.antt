@@ -9,11 +9,11 @@ use Rattle.mf_share.proofs.desk.Desk.leave.Goals as goal
 pub leave-requires-clause-turn : goal.leave-requires-clause-turn
 leave-requires-clause-turn g c =
     leaves c.args.ticket.committed _
-    (ticket_says c.self.inside.core c.args.self.now c.args.ticket c.task.result c.self.view_is c.task.ensures (c.agrees_with_ticket.ensures.agrees.0 c.if-not-agrees_with_ticket.false))
+    (ticket_says c.self.inside.tracked c.args.self.now c.args.ticket c.task.result c.self.view_is c.task.ensures (c.agrees_with_ticket.ensures.agrees.0 c.if-not-agrees_with_ticket.false))
 
 pub invariant_of-self : goal.invariant_of-self
 invariant_of-self g c =
-    let core = c.self.inside.core in
+    let core = c.self.inside.tracked in
     let committed = c.args.ticket.committed in
     let is : turn_at core c.task.result ≡ ticket_turn committed =
     ticket_says core c.args.self.now c.args.ticket c.task.result c.self.view_is c.task.ensures (c.agrees_with_ticket.ensures.agrees.0 c.if-not-agrees_with_ticket.false) in

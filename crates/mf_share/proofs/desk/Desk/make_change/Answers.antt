@@ -17,16 +17,16 @@ change-outcome-requires-clause-task g c κs within = omega (arith, c.task.ensure
 
 pub change-outcome-requires-clause-turn : goal.change-outcome-requires-clause-turn
 change-outcome-requires-clause-turn g c κs within =
-    pass_says g.J.Job.script c.self.inside.core c.args.self.now c.args.pass.now c.task.result turn.Change c.self.view_is c.self.invariant.0 c.task.ensures c.requires.turn c.requires.agrees
+    pass_says g.J.Job.script c.self.inside.tracked c.args.self.now c.args.pass.now c.task.result turn.Change c.self.view_is c.self.invariant.0 c.task.ensures c.requires.turn c.requires.agrees
 
 pub change-outcome-requires-clause-policies : goal.change-outcome-requires-clause-policies
 change-outcome-requires-clause-policies g c κs within =
-    are_of g.J.Job.script c.self.inside.core c.args.self.now c.args.fixed.now c.policies.inside.list c.policies.inside.catalogue c.args.policies.now c.self.view_is
+    are_of g.J.Job.script c.self.inside.tracked c.args.self.now c.args.fixed.now c.policies.inside.list c.policies.inside.catalogue c.args.policies.now c.self.view_is
     (ap (λ (p : PoliciesView). p.list) c.policies.view_is) c.requires.fixed c.requires.listed c.policies.invariant
 
 pub invariant_of-self : goal.invariant_of-self
 invariant_of-self g c =
-    let core = c.self.inside.core in
+    let core = c.self.inside.tracked in
     let is : turn_at core c.task.result ≡ turn.Change =
     pass_says g.J.Job.script core c.args.self.now c.args.pass.now c.task.result turn.Change c.self.view_is c.self.invariant.0 c.task.ensures c.requires.turn c.requires.agrees in
     let within : c.task.result < length g.J.Job.script.tasks = omega (arith, c.task.ensures, c.requires.task) in
@@ -49,18 +49,18 @@ returns-clause-ok g c =
     (λ by. c.note.new.self ≡ pass_changed by c.args.pass.now) (λ by. c.note.new.done.total ≡ c.self.inside.done.total + lines_changed by)
     (c.args.fixed.now ++ new.list ≡ specs_of new.self) r c.change-outcome.ensures.policies.listed
     (subst (λ (run : CoreView). IfOk r (λ by. Changes run c.args.pass.now.task by new.self)) c.self.view_is
-    (subst (λ (t : ℕ). IfOk r (λ by. Changes c.self.inside.core t by new.self)) c.task.ensures c.change-outcome.ensures.outcome))
+    (subst (λ (t : ℕ). IfOk r (λ by. Changes c.self.inside.tracked t by new.self)) c.task.ensures c.change-outcome.ensures.outcome))
     (subst (λ (p : PoliciesView). IfOk r (λ by. StaysWhileWaiting by p.list new.list p.catalogue new.catalogue)) c.policies.view_is c.change-outcome.ensures.waits)
     c.note.ensures.ok
 
 pub returns-clause-err : goal.returns-clause-err
 returns-clause-err g c =
-    change_failed (c.note.new.self ≡ record c.args.pass.now { stopped = true }) (c.note.new.done.total ≡ c.self.inside.done.total) c.self.inside.core c.args.self.now c.change-outcome.new.self c.policies.inside.list c.change-outcome.new.list c.policies.inside.catalogue c.change-outcome.new.catalogue
+    change_failed (c.note.new.self ≡ record c.args.pass.now { stopped = true }) (c.note.new.done.total ≡ c.self.inside.done.total) c.self.inside.tracked c.args.self.now c.change-outcome.new.self c.policies.inside.list c.change-outcome.new.list c.policies.inside.catalogue c.change-outcome.new.catalogue
     c.args.policies.now c.change-outcome.result c.self.view_is c.policies.view_is c.change-outcome.ensures.err c.note.ensures.err
 
 pub returns-clause-memory : goal.returns-clause-memory
 returns-clause-memory g c =
     let r = c.change-outcome.result in
     subst (λ (run : CoreView). (reply : Reply) → next_reply run.script (run_state run) c.args.pass.now.task ≡ Some reply → is_ok reply ≡ false → IsOk r) c.self.view_is
-    (subst (λ (t : ℕ). (reply : Reply) → next_reply c.self.inside.core.script (run_state c.self.inside.core) t ≡ Some reply → is_ok reply ≡ false → IsOk r) c.task.ensures
+    (subst (λ (t : ℕ). (reply : Reply) → next_reply c.self.inside.tracked.script (run_state c.self.inside.tracked) t ≡ Some reply → is_ok reply ≡ false → IsOk r) c.task.ensures
     c.change-outcome.ensures.memory)
