@@ -13,7 +13,7 @@ use crate::tests::{history_text, wants};
 use mf_calls::Script;
 use mf_core::{ChangeOutcome, Commit, Core, Turn};
 use mf_list::{Catalogue, Fixed, Listed, PolicyList};
-use mf_plan::Plan;
+use mf_plan::{Outline, Plan};
 use mf_policy::Policy;
 use std::alloc::{AllocError, Global};
 use std::process::Abort;
@@ -181,7 +181,7 @@ fn commit<P: Policy>(
 ) -> Result<Commit, AllocError> {
     assert!(rt; machine.core.turn(0) == Turn::Entered);
     let mut plan = Plan::new();
-    machine.core.plan(0, &mut plan);
+    machine.core.plan(0, &mut plan, &mut Outline::new());
     let listed = Listed::new(&machine.fixed, &machine.list);
     let verdict = Core::walk(&listed, &plan);
     machine.core.done(alloc, 0, &listed, &plan, &verdict)

@@ -5,7 +5,7 @@ ghost use Rattle.mf_list.specs.Fresh.{IsFresh};
 ghost use Rattle.mf_calls.specs.WellFormed.{IsWellFormed};
 ghost use Rattle.mf_perform.specs.Verdict.{verdict_of};
 ghost use Rattle.mf_core.specs.AllModules.{AreAllModules};
-ghost use Rattle.mf_share.specs.Passes.{ticket_for};
+ghost use Rattle.mf_share.specs.Passes.{AreOneEach, ticket_for};
 ghost use Rattle.mf_top.specs.Passes.{IsSameTicket};
 
 use crate::tests::history_text;
@@ -98,22 +98,36 @@ pub fn changed_during_a_call<P: Policy, J: Job, B: Ledger, R: Wait + Abort>(
     requires busy_parts { (busy.parts ≡ B.parts) × (busy.parts ≡ length script.now.tasks + 1) }
 {
     let (kernel, mut passes) = Kernel::<P, J, B>::open(alloc, script, modules, lines, busy)?;
+    let are_done = calls_that_meet(rt, alloc, &kernel, &mut passes);
+    let tracked = kernel.close(passes);
+    assert!(rt; are_done);
+    history_text(alloc, script, tracked.core())
+}
+
+/// Between the first task's walk and commit the second does its call: whether both are done. A kernel is wide, so it is lent to
+/// what has many exits.
+fn calls_that_meet<P: Policy, J: Job, B: Ledger, R: Wait + Abort>(
+    rt: &R,
+    alloc: Global,
+    kernel: &Kernel<P, J, B>,
+    passes: &mut Vec<Pass<J, B>>,
+) -> bool
+    requires { AreOneEach J.script passes.old.items }
+    ensures { AreOneEach J.script passes.new.items }
+{
     assert!(rt; passes.len() == 2);
     let policies = kernel.policies(rt);
     let list = &Listed::new(kernel.fixed(), policies.list());
-    let mut first = enter(rt, &kernel, &mut passes[0]);
-    let mut second = enter(rt, &kernel, &mut passes[1]);
+    let mut first = enter(rt, kernel, &mut passes[0]);
+    let mut second = enter(rt, kernel, &mut passes[1]);
     let mut early = Plan::new();
     kernel.plan(rt, &first, &mut early);
     let early_verdict = Kernel::walk(list, &first, &early);
-    let changed = commit_new_plan(rt, alloc, &kernel, &mut second, list);
+    let changed = commit_new_plan(rt, alloc, kernel, &mut second, list);
     kernel.leave(rt, second, &mut passes[1]);
-    let called = commit_twice(rt, alloc, &kernel, &mut first, list, &early, &early_verdict);
+    let called = commit_twice(rt, alloc, kernel, &mut first, list, &early, &early_verdict);
     kernel.leave(rt, first, &mut passes[0]);
-    drop(policies);
-    let core = kernel.close(passes);
-    assert!(rt; matches!(changed, Ok(Commit::Done)) && matches!(called, Ok(Commit::Done)));
-    history_text(alloc, script, core.core())
+    matches!(changed, Ok(Commit::Done)) && matches!(called, Ok(Commit::Done))
 }
 
 /// Enters for the pass, whose next line must be an entry.

@@ -11,7 +11,7 @@ use crate::tests::{history_text, wants};
 use mf_calls::Script;
 use mf_core::{ChangeOutcome, Commit, Core, Turn};
 use mf_list::{Catalogue, Fixed, Listed, PolicyList};
-use mf_plan::Plan;
+use mf_plan::{Outline, Plan};
 use mf_policy::Policy;
 use std::alloc::{AllocError, Global};
 use std::process::Abort;
@@ -56,7 +56,7 @@ fn finish_entry<P: Policy, R: Abort>(
 {
     assert!(rt; core.turn(0) == Turn::Entered);
     let mut plan = Plan::new();
-    core.plan(0, &mut plan);
+    core.plan(0, &mut plan, &mut Outline::new());
     let verdict = Core::walk(list, &plan);
     let done = core.done(alloc, 0, list, &plan, &verdict)?;
     assert!(rt; done == Commit::Done);
