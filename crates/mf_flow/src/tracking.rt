@@ -1,4 +1,5 @@
-//! A core with the sources along its history: what each call moves is noted as the call is committed.
+//! A core with the sources along its history, where what each call moves is noted as the call is committed, and with the outline of the
+//! call that was planned last.
 ghost use Rattle.std.specs.Prelude.{◌≡◌, ◌+◌, ◌<◌, ◌⊎◌, ◌↔◌, [], false, true, length, map, IfOk, IsOk, IsTrue, OnErr, OnOk, Some};
 ghost use Rattle.std.specs.List.{AllByRecursion};
 ghost use Rattle.std.specs.Option.{option_zip};
@@ -39,7 +40,8 @@ use mf_policy::Policy;
 use std::alloc::{AllocError, Global};
 use std::marker::Model;
 
-/// A core, with the sources along its history while there is memory for them. Contracts see the core.
+/// A core, with the sources along its history while there is memory for them, and the outline of the call that was planned last.
+/// Contracts see the core.
 #[derive(Drop)]
 pub struct TrackedCore<'s> {
     core: Core<'s>,
@@ -48,7 +50,7 @@ pub struct TrackedCore<'s> {
     is_tracked: bool,
     /// That of the last call that was planned or compared, whose room is used again.
     outline: Outline,
-    /// The task whose call was planned last, if nothing has happened since: the outline is that of its call.
+    /// The task whose call was planned last, until the next plan, commit or event: the outline is that of its call.
     planned: Option<u32>,
 }
 
@@ -64,7 +66,8 @@ impl<'s> Model for TrackedCore<'s> {
 
     ghost invariant = { λ t.
         (IsTrue t.is_tracked → AreSourcesOf t.core.script t.core.history t.flows.items)
-        × IfSome t.planned (λ task. IsNextOutline t.core.script (run_state t.core) task t.outline) };
+        × IfSome t.planned
+        (λ task. IsNextOutline t.core.script (run_state t.core) task t.outline) };
 }
 
 impl<'s> TrackedCore<'s> {
@@ -135,7 +138,8 @@ impl<'s> TrackedCore<'s> {
         let _history = self.core.history();
     }
 
-    /// Makes `plan` that of the call that the task has entered for, as `Core::plan` does.
+    /// Makes `plan` that of the call that the task has entered for, as `Core::plan` does. The outline stays for the commit, until the
+    /// next plan, commit or event.
     pub fn plan(&mut self, task: u32, plan: &mut Plan)
         requires task { task < length self.old.script.tasks }
         requires turn { turn_at self.old task ≡ turn.Entered }
@@ -168,10 +172,10 @@ impl<'s> TrackedCore<'s> {
         ensures memory { is_ok (reply_to plan.now verdict.now.denied payload.None) ≡ false
             → IsOk result }
     {
-        let is_planned = is_for(self.planned, task);
+        let is_planned = was_planned_last(self.planned, task);
         self.planned = None;
         let outline = &mut self.outline;
-        if !is_current(&self.core, task, list, plan, is_planned, outline) {
+        if !is_plan_current(&self.core, task, list, plan, is_planned, outline) {
             return Ok(Commit::Stale);
         }
         let reply = self.core.reply(alloc, task, plan, &outline.found, verdict)?;
@@ -220,16 +224,16 @@ impl<'s> TrackedCore<'s> {
     }
 }
 
-/// Whether the task was planned for last.
-fn is_for(planned: Option<u32>, task: u32) -> bool
+/// Whether this task's call was the one that was planned last.
+fn was_planned_last(planned: Option<u32>, task: u32) -> bool
     ensures { IsTrue result ↔ (planned ≡ Some task) }
 {
     planned == Some(task)
 }
 
-/// Whether the plan and the listed policies are those of now, as `Core::is_current` says. Where the outline is still that of the task's
-/// call, it isn't made again.
-fn is_current<P: Policy>(
+/// Whether the plan and the listed policies are those of now, as `Core::is_current` says: by the outline at hand where that is of the
+/// task's call, and else by one that is made anew.
+fn is_plan_current<P: Policy>(
     core: &Core,
     task: u32,
     list: &Listed<'_, P>,
@@ -248,7 +252,7 @@ fn is_current<P: Policy>(
         → IsNextOutline core.now.script (run_state core.now) task outline.new }
 {
     if is_planned {
-        core.is_still(task, list, plan, outline)
+        core.is_current_by_outline(task, list, plan, outline)
     } else {
         core.is_current(task, list, plan, outline)
     }

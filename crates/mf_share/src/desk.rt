@@ -76,8 +76,8 @@ impl<'s, J: Job, B: Ledger> Desk<'s, J, B> {
         Some(pass.ticket(&mut self.busy))
     }
 
-    /// Makes `plan` that of the ticket's call, from the present state. False where the core doesn't agree with the ticket;
-    /// then nothing changes.
+    /// Makes `plan` that of the ticket's call, from the present state. The desk is lent to be changed, since the outline of the call stays
+    /// with its core. False where the core doesn't agree with the ticket; then nothing changes.
     pub fn plan(&mut self, ticket: &Ticket<J, B>, plan: &mut Plan) -> bool
         requires { ticket.now.committed ≡ false }
         ensures made { IsTrue result → AgreesWithTicket self.old ticket.now

@@ -44,8 +44,8 @@ pub fn run_script<P: Policy, G: Gate, R: Threads + Wait + Sync>(
     requires fresh { All (λ p. IsFresh (P.spec p)) modules.items }
     ensures { IsToldOf telling script.now (bytes_of_outcome result) }
 {
-    let core = run_core(rt, alloc, script, gate, modules)?;
-    tell(rt, alloc, script, &core, telling)
+    let tracked = run_core(rt, alloc, script, gate, modules)?;
+    tell(rt, alloc, script, &tracked, telling)
 }
 
 /// The summary of a run of the generated load of so many lines for each of so many tasks, over these modules.
@@ -144,10 +144,14 @@ fn run_tasks<
 }
 
 /// The core of a run, unless a task stopped early, which happens only where memory ran out.
-fn whole_run<'s>(core: TrackedCore<'s>, all_done: bool) -> Result<TrackedCore<'s>, AllocError>
-    ensures { IfOk result (λ whole. IsTrue all_done × (whole ≡ core.entry)) }
+fn whole_run<'s>(tracked: TrackedCore<'s>, all_done: bool) -> Result<TrackedCore<'s>, AllocError>
+    ensures { IfOk result (λ whole. IsTrue all_done × (whole ≡ tracked.entry)) }
 {
-    if all_done { Ok(core) } else { Err(AllocError) }
+    if all_done {
+        Ok(tracked)
+    } else {
+        Err(AllocError)
+    }
 }
 
 /// What the thread of a task works with.

@@ -65,7 +65,8 @@ fn whole_text(alloc: Global, script: &Script, tracked: &TrackedCore) -> Result<S
     requires entries { open_of tracked.now ≡ 0 }
     requires lines { done_of tracked.now ≡ all_lines tracked.now.script }
     ensures run { OnOk result (IsRun script.now tracked.now.history) }
-    ensures text { IfOk result (λ text. string_bytes text ≡ run_text script.now tracked.now.history) }
+    ensures text { IfOk result
+        (λ text. string_bytes text ≡ run_text script.now tracked.now.history) }
 {
     let history = tracked.core().history();
     let mut text = String::new(alloc);

@@ -83,8 +83,8 @@ impl<'s> Core<'s> {
         self.run.has_plan(task, plan, outline)
     }
 
-    /// Whether the plan is that of the task's call, whose outline this is, and the lists have the policies and specs of the core's state.
-    pub fn is_still<P: Policy>(
+    /// As `is_current`, where the outline is that of the task's call already, and isn't made again.
+    pub fn is_current_by_outline<P: Policy>(
         &self,
         task: u32,
         list: &Listed<'_, P>,

@@ -123,7 +123,7 @@ fn calls_that_meet<P: Policy, J: Job, B: Ledger, R: Wait + Abort>(
     let mut early = Plan::new();
     kernel.plan(rt, &first, &mut early);
     let early_verdict = Kernel::walk(list, &first, &early);
-    let changed = commit_new_plan(rt, alloc, kernel, &mut second, list);
+    let changed = commit_after_no_plan(rt, alloc, kernel, &mut second, list);
     kernel.leave(rt, second, &mut passes[1]);
     let called = commit_twice(rt, alloc, kernel, &mut first, list, &early, &early_verdict);
     kernel.leave(rt, first, &mut passes[0]);
@@ -161,7 +161,24 @@ fn commit_new_plan<P: Policy, J: Job, B: Ledger, R: Wait>(
     kernel.commit(rt, alloc, ticket, list, &plan, &verdict)
 }
 
-/// Commits a plan that is out of date, and then a new one.
+/// Commits a plan that asks nothing, in place of the one that was just made, and then a new one.
+fn commit_after_no_plan<P: Policy, J: Job, B: Ledger, R: Wait>(
+    rt: &R,
+    alloc: Global,
+    kernel: &Kernel<P, J, B>,
+    ticket: &mut Ticket<J, B>,
+    list: &Listed<'_, P>,
+) -> Result<Commit, AllocError>
+    requires { ticket.old.committed ≡ false }
+    ensures { IsSameTicket ticket.old ticket.new }
+{
+    kernel.plan(rt, ticket, &mut Plan::new());
+    let none = Plan::new();
+    let verdict = Kernel::walk(list, ticket, &none);
+    commit_twice(rt, alloc, kernel, ticket, list, &none, &verdict)
+}
+
+/// Commits a plan that isn't the call's, or no longer, and then a new one.
 fn commit_twice<P: Policy, J: Job, B: Ledger, R: Wait>(
     rt: &R,
     alloc: Global,

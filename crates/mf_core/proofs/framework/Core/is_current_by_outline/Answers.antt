@@ -11,7 +11,7 @@ use Rattle.mf_core.specs.LegalHistory.{RunState}
 use Rattle.mf_core.specs.Next.{next_plan}
 use Rattle.mf_core.proofs.Calls.{caller_lives, found_by, outline_live, same_plan, shown}
 use Rattle.mf_core.proofs.Insides.{outline_here, plan_same, run_state_here}
-use Rattle.mf_core.proofs.framework.Core.is_still.Goals as goal
+use Rattle.mf_core.proofs.framework.Core.is_current_by_outline.Goals as goal
 
 pub is_outlined-requires-clause-live : goal.is_outlined-requires-clause-live
 is_outlined-requires-clause-live g c =
