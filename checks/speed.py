@@ -84,6 +84,11 @@ def without_sources(text):
     return [line for line in text.split(b"\n") if not line.startswith(b"source ")]
 
 
+def against(mine, its, single):
+    """A figure of the program, and those of the plain one and of its single thread, each with the ratio."""
+    return [mine, its, mine / its, single, mine / single]
+
+
 def compare(program, plain, printer, runs):
     works = [
         ("4,000 reads and writes, 256 files", over_files(4000, 256)),
@@ -92,18 +97,19 @@ def compare(program, plain, printer, runs):
         ("load 1024 16", load(printer, 1024, 16)),
         ("load 4096 16", load(printer, 4096, 16)),
     ]
-    heads = ["M instr.", "plain", "ratio", "ms", "plain", "ratio", "run1", "ratio", "MB", "plain"]
+    beside = ["plain", "ratio", "run1", "ratio"]
+    heads = ["M instr.", *beside, "ms", *beside, "MB", "plain"]
     print(f"{'work':36}" + "".join(f"{head:>9}" for head in heads) + "  same as run1")
     for name, text in works:
-        own, other = [program, "run"], [plain, "run"]
+        own, other, single = [program, "run"], [plain, "run"], [plain, "run1"]
         counts = [instructions(own, text), instructions(other, text, REPLANNING)]
+        counts.append(instructions(single, text))
         (mine, printed), (its, _) = timed(own, text, runs), timed(other, text, runs, REPLANNING)
-        single, wanted = timed([plain, "run1"], text, runs)
+        least, wanted = timed(single, text, runs)
         memory = [peak(own, text), peak(other, text, REPLANNING)]
-        row = [counts[0] / 1e6, counts[1] / 1e6, counts[0] / counts[1], mine, its, mine / its]
-        row += [single, mine / single, *memory]
+        row = [*against(*(it / 1e6 for it in counts)), *against(mine, its, least), *memory]
         same = without_sources(printed) == without_sources(wanted)
-        print(f"{name:36}" + "".join(f"{it:9.1f}" for it in row) + f"  {'yes' if same else 'no'}")
+        print(f"{name:36}" + "".join(f"{it:9.2f}" for it in row) + f"  {'yes' if same else 'no'}")
 
 
 def grow(program, printer):
