@@ -1,5 +1,5 @@
 -- A label that is compared with values, and a whole entity with what policies see of it.
-use Rattle.std.proofs.Common.{◌≡◌, ◌↔◌, ℕ, ◌<◌, List, [], ◌∷◌, Bool, IsTrue, Some, length, get_or, refl, ap, sym, ◌∙◌, arith, zero, suc}
+use Rattle.std.proofs.Common.{◌≡◌, ◌↔◌, ℕ, ◌<◌, List, [], ◌∷◌, Bool, true, IsTrue, Some, length, get_or, refl, ap, sym, ◌∙◌, arith, zero, suc}
 use Rattle.mf_elem.specs.declared.label.LabelValue.{LabelValue}
 use Rattle.mf_elem.specs.declared.label.LabelValue.TheVariants.{Unset}
 use Rattle.std.proofs.lemmas.Bool.{eqb-true}
@@ -63,3 +63,8 @@ pub unseen_place : (next : ℕ) (zones : Contents) (es : List Entity) (id : Id) 
 unseen_place next zones es id i e v place at seen =
     let is = found_place next zones es id i e place at in
     (seen_parts (view next zones es) id e (label_values zones e.label) v is (own_number next zones es id e is) seen).0
+
+-- values that are those of the four slots
+pub shown_values : (zones : Contents) (label : Handles) (values : List LabelValue) → length values ≡ 4
+    → ((slot : ℕ) → slot < 4 → slot_value zones label slot ≡ value_for values slot) → values ≡ label_values zones label
+shown_values zones label values four each = (same_values zones label values true four (λ yes. each, λ all. refl)).0 refl

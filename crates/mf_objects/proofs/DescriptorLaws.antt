@@ -1,7 +1,7 @@
 -- What callers need to know of descriptors: on what they are, and what each change of the live entities makes of those of a process.
-use Rattle.std.proofs.Common.{◌≡◌, ◌≢◌, ℕ, ◌||◌, Bool, true, false, not, cond, List, [], ◌∷◌, Option, Some, None, IfSome, option_map, map, refl, ap, sym, ◌∙◌, subst, nat_eq, inl, inr}
+use Rattle.std.proofs.Common.{◌≡◌, ◌≢◌, ℕ, ◌||◌, Bool, true, false, not, cond, List, [], ◌∷◌, Option, Some, None, IfSome, Bor, option_map, map, refl, ap, sym, ◌∙◌, subst, nat_eq, inl, inr}
 use Rattle.std.specs.Prelude.{All, find, filter}
-use Rattle.std.specs.Option.{option_or}
+use Rattle.std.specs.Option.{option_copied, option_or}
 use Rattle.std.proofs.lemmas.Bool.{false≢true, eqb-true}
 use Rattle.std.proofs.lemmas.List.Folds.{find-append}
 use Rattle.std.proofs.lemmas.List.Elements.{All-head, All-tail}
@@ -65,10 +65,10 @@ fd_regular objects p n fd population is =
     let are : AreDescriptors objects.live (fds_at objects p) = descriptors_at objects p population in
     found_all (λ (other : Fd). IsLive is_regular objects other.file) (fds_at objects p) n fd are.files is
 
-pub found_regular : (objects : Entities) (p : Id) (n : ℕ) (found : Option Fd) → IsPopulation objects → found ≡ fd_in (fds_at objects p) n
-    → IfSome found (λ fd. IsLive is_regular objects fd.file)
+pub found_regular : (objects : Entities) (p : Id) (n : ℕ) (found : Option (Bor Fd)) → IsPopulation objects → option_copied found ≡ fd_in (fds_at objects p) n
+    → IfSome found (λ fd. IsLive is_regular objects fd.now.file)
 found_regular objects p n None population is = tt
-found_regular objects p n (Some fd) population is = fd_regular objects p n fd population (sym is)
+found_regular objects p n (Some fd) population is = fd_regular objects p n fd.now population (sym is)
 
 regular_vnode : (w : EntityData) → is_regular w ≡ true → is_vnode w ≡ true
 regular_vnode (Process process) is = is

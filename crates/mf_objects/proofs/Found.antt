@@ -4,7 +4,7 @@ use Rattle.std.specs.declared.alloc.AllocError.{AllocError}
 use Rattle.std.proofs.lemmas.List.Elements.{All-nil, All-cons, All-weaker}
 use Rattle.std.proofs.lemmas.Bool.Decides.{nat_tests}
 use Rattle.std.specs.Prelude.{find, All, IfSome, IfNone}
-use Rattle.mf_slots.specs.Zones.{Contents, label_values, slot_value}
+use Rattle.mf_slots.specs.Zones.{Contents, label_values}
 use Rattle.mf_objects.proofs.Entities.{label_of}
 use Rattle.mf_objects.specs.declared.id.Id.{Id}
 use Rattle.mf_objects.specs.declared.entity.Entity.{Entity}
@@ -116,12 +116,6 @@ what_sound (Err error) next zones es id i e w change place is sound stays descri
 pub label_there : (next : ℕ) (zones : Contents) (es : List Entity) (id : Id) (i : ℕ) (e : Entity) → IsPlace (view next zones es) id i → e ≡ get_or es i e
     → label_values zones e.label ≡ label_at (view next zones es) id
 label_there next zones es id i e place is = ap label_of (sym (found_place next zones es id i e place is))
-
--- the four values of the label of the entity at a place
-pub label_place : (next : ℕ) (zones : Contents) (es : List Entity) (id : Id) (i : ℕ) (e : Entity) → IsPlace (view next zones es) id i → e ≡ get_or es i e
-    → slot_value zones e.label 0 ∷ slot_value zones e.label 1 ∷ slot_value zones e.label 2 ∷ slot_value zones e.label 3 ∷ [] ≡ label_at (view next zones es) id
-unfolding label_values
-label_place next zones es id i e place is = label_there next zones es id i e place is
 
 root_found : (next : ℕ) (es : List LiveEntity) → HasRoot es → IsLive is_directory (record { next = next; live = es }) (record { 0 = 0 })
 root_found next [] root = absurd root

@@ -80,13 +80,7 @@ impl Descriptors {
     }
 
     /// The descriptor of this number.
-    pub fn find(&self, number: u32) -> Option<Fd>
-        ensures { result ≡ fds.fd_in self.now number }
-    {
-        self.first(number).copied()
-    }
-
-    fn first(&self, number: u32) -> Option<&Fd>
+    pub fn find(&self, number: u32) -> Option<&Fd>
         ensures { option_copied result ≡ fds.fd_in self.now number }
     {
         self.items.iter().find(|fd| fd.has_number(number))
@@ -97,7 +91,7 @@ impl Descriptors {
         ensures { result ≡ fds.lowest_free self.now }
     {
         let mut number = 0;
-        while number < MOST_DESCRIPTORS && self.first(number).is_some() {
+        while number < MOST_DESCRIPTORS && self.find(number).is_some() {
             number += 1;
         }
         number

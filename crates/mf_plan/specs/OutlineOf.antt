@@ -11,8 +11,8 @@ use Rattle.mf_plan.specs.Outline.{AreLive, outlined}
 use Rattle.mf_plan.specs.Plan.{call_row, plan_in}
 use Rattle.mf_plan.specs.Views.{process_named}
 
--- It shows the plan that the call has before anyone is lowered, and says who calls, and what the call is about where it may be done. All
--- that it names is live.
+-- It shows the plan that the call has before anyone is lowered, and says who calls, and what the call is about where it may be done. Who
+-- calls and what the checks are about is live.
 pub record IsOutlineOf (s : State) (task : List ℕ) (child : Option (List ℕ)) (c : Call) (outline : Outline) : Type 0 where
   pub plan : outlined s.objects outline ≡ plan_in s (call_row s task child c)
   pub live : AreLive s.objects outline.checks

@@ -51,22 +51,22 @@ impl Access {
 }
 
 /// The descriptor of that number of a process, where it is open so.
-fn opened_at(objects: &Objects, caller: Id, access: Access, n: u32) -> Option<Fd>
+fn opened_at(objects: &Objects, caller: Id, access: Access, n: u32) -> Option<&Fd>
     requires { IsLive is_process objects.now caller }
-    ensures value { result ≡ ways.opened_at objects.now caller access n }
-    ensures file { IfSome result (λ fd. IsLive is_regular objects.now fd.file) }
+    ensures value { option_copied result ≡ ways.opened_at objects.now caller access n }
+    ensures file { IfSome result (λ fd. IsLive is_regular objects.now fd.now.file) }
 {
     let fd = objects.fd(caller, n)?;
-    if access.allows(&fd) { Some(fd) } else { None }
+    if access.allows(fd) { Some(fd) } else { None }
 }
 
 /// The descriptor that a call of this live process goes through. The clause says so of every call by its place, so a call that is new
 /// and goes through one is refused here until it has its line.
-fn descriptor_at(state: &State, caller: Id, call: &Call) -> Option<Fd>
+fn descriptor_at<'a>(state: &'a State, caller: Id, call: &Call) -> Option<&'a Fd>
     requires { IsLive is_process state.now.objects caller }
-    ensures value { (task : List ℕ) → result ≡ found.descriptor_at state.now caller
+    ensures value { (task : List ℕ) → option_copied result ≡ found.descriptor_at state.now caller
         (rows.about_of state.now task caller call.now).place }
-    ensures file { IfSome result (λ fd. IsLive is_regular state.now.objects fd.file) }
+    ensures file { IfSome result (λ fd. IsLive is_regular state.now.objects fd.now.file) }
 {
     match call {
         Call::Fread(n) => opened_at(&state.objects, caller, Access::Reading, *n),
@@ -77,37 +77,28 @@ fn descriptor_at(state: &State, caller: Id, call: &Call) -> Option<Fd>
 }
 
 /// The descriptor that a call of the task's own process, or of its child of that name, goes through. Few calls go through one: so
-/// who calls is looked up for these alone, and apart.
-pub fn descriptor_of_call(state: &State, task: &str, child: Option<&str>, call: &Call) -> Option<Fd>
+/// who calls is looked up for these alone.
+pub fn descriptor_of_call<'a>(
+    state: &'a State,
+    task: &str,
+    child: Option<&str>,
+    call: &Call,
+) -> Option<&'a Fd>
     requires task { IsName task.now }
     requires child { IfSome (option_copied child) IsName }
-    ensures value { result ≡ option_and_then
+    ensures value { option_copied result ≡ option_and_then
         (λ me. found.descriptor_at state.now me
         (rows.about_of state.now task.now me call.now).place)
         (process_named state.now.objects (caller_name task.now (option_copied child.entry))) }
-    ensures file { IfSome result (λ fd. IsLive is_regular state.now.objects fd.file) }
+    ensures file { IfSome result (λ fd. IsLive is_regular state.now.objects fd.now.file) }
 {
     match call {
         Call::Fread(_) | Call::Fwrite(..) | Call::Close(_) => {
-            descriptor_of_caller(state, task, child, call)
+            let caller = caller_of(&state.objects, task, child)?;
+            descriptor_at(state, caller, call)
         }
         _ => None,
     }
-}
-
-/// The same of any call. A descriptor is wide, and `descriptor_of_call` needs no room for one where the call goes through none.
-#[inline(never)]
-fn descriptor_of_caller(state: &State, task: &str, child: Option<&str>, call: &Call) -> Option<Fd>
-    requires task { IsName task.now }
-    requires child { IfSome (option_copied child) IsName }
-    ensures value { result ≡ option_and_then
-        (λ me. found.descriptor_at state.now me
-        (rows.about_of state.now task.now me call.now).place)
-        (process_named state.now.objects (caller_name task.now (option_copied child.entry))) }
-    ensures file { IfSome result (λ fd. IsLive is_regular state.now.objects fd.file) }
-{
-    let caller = caller_of(&state.objects, task, child)?;
-    descriptor_at(state, caller, call)
 }
 
 /// What mac_biba has in its slot of an entity's label.

@@ -159,7 +159,7 @@ fn write_fds(objects: &Objects, t: Id, out: &mut String) -> Result<(), AllocErro
     write_numbers(&[objects.fd_count(t), objects.lowest_free(t)], out)?;
     for number in 0..MOST_DESCRIPTORS + 1 {
         if let Some(fd) = objects.fd(t, number) {
-            write_fd(&fd, out)?;
+            write_fd(fd, out)?;
         }
     }
     out.push_str("\n")

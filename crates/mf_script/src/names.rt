@@ -2,7 +2,8 @@
 #![tactic(auto, unfolding(crate::specs::Readers::and_then))]
 
 ghost use Rattle.std.specs.Str.{byte};
-ghost use Rattle.std.specs.Prelude.{◌≡◌, ◌≢◌, ◌<◌, ◌≤◌, ◌∷◌, MatchOption, List, ℕ};
+ghost use Rattle.std.specs.Prelude.{◌≡◌, ◌≢◌, ◌<◌, ◌≤◌, ◌+◌, [], ◌∷◌, length, MatchOption, OnOk, List, ℕ};
+ghost use Rattle.mf_names.specs.declared.limits.TheConstants.{PATH_LIMIT};
 ghost use Rattle.mf_labeltext.specs.Reading.{parts};
 ghost use Rattle.mf_calls.specs.Names.{is_process_name};
 ghost use Rattle.mf_script.specs.Gives.{Gives};
@@ -80,29 +81,35 @@ pub fn process(alloc: Global, words: &mut Words) -> Result<Name, Refusal>
 }
 
 #[tactic(auto, unfolding(crate::specs::Parts::with_component, crate::specs::Readers::and_then))]
-fn add_component(path: &mut Path, word: &str) -> Result<(), Refusal>
-    ensures { Gives (λ u. path.new) result (with_component path.old word.now) }
+fn add_component(path: &mut Path, depth: usize, word: &str) -> Result<(), Refusal>
+    requires { depth ≡ length path.old }
+    ensures read { Gives (λ u. path.new) result (with_component path.old word.now) }
+    ensures deeper { OnOk result ((length path.new ≡ depth + 1) × (depth < PATH_LIMIT)) }
 {
-    if path.depth() >= PATH_LIMIT || !is_component(word) {
+    if depth >= PATH_LIMIT || !is_component(word) {
         return Err(faulty(ScriptFault::BadPath));
     }
     path.push(word)?;
     Ok(())
 }
 
-/// Adds the components of the word.
+/// Adds the components of the word to the path of the root directory. They are counted on the way, so that the path isn't gone
+/// through for each.
 fn add_components(path: &mut Path, word: &str) -> Result<(), Refusal>
+    requires { path.old ≡ [] }
     ensures { Gives (λ u. path.new) result
         (all_added with_component path.old (parts (byte "/") word.now)) }
 {
     let mut rest = word;
+    let mut depth = 0;
     while let Some((component, after)) = split_at(rest, '/') {
-        match add_component(path, component) {
+        match add_component(path, depth, component) {
             Err(error) => return Err(error),
             Ok(()) => rest = after,
         }
+        depth += 1;
     }
-    add_component(path, rest)
+    add_component(path, depth, rest)
 }
 
 #[tactic(auto, unfolding(crate::specs::Parts::components_of))]

@@ -4,7 +4,8 @@ use Rattle.std.proofs.lemmas.List.{set-get_or, get_or-set_same, get_or-set_other
 use Rattle.std.proofs.lemmas.Bool.{cases_eq}
 use Rattle.slab.specs.Slab.{Slab, get, with_value, Updates as UpdatesSlab}
 use Rattle.mf_elem.specs.declared.label.LabelValue.{LabelValue}
-use Rattle.mf_slots.specs.Zones.{Contents, Handles, handle, under, Writes, Updates, Adds, Makes, Frees}
+use Rattle.mf_elem.specs.declared.label.LabelValue.TheVariants.{Unset}
+use Rattle.mf_slots.specs.Zones.{Contents, Handles, handle, slot_value, under, value_for, Writes, Updates, Adds, Makes, Frees}
 
 -- what contracts see of the slabs
 abbrev pub seen : List (Slab LabelValue) → Contents
@@ -117,3 +118,11 @@ frees_zone slabs i old new k within is up =
 
 pub frees_none : (zones : Contents) (slot : ℕ) → Frees zones zones slot None
 frees_none zones slot = record { freed = λ h e. cc; others = λ s k no. refl }
+
+-- one slot more has its value
+pub shown_more : (zones : Contents) (label : Handles) (values : List LabelValue) (n : ℕ) (v : LabelValue) → n < length values → slot_value zones label n ≡ v
+    → ((slot : ℕ) → slot < n → slot_value zones label slot ≡ value_for values slot) → (slot : ℕ) → slot < n + 1 → slot_value zones label slot ≡ value_for (set values n v) slot
+shown_more zones label values n v long is before slot within = elim (cases_eq slot n) [
+  | inl same ↦ ap (slot_value zones label) same ∙ is ∙ sym (ap (value_for (set values n v)) same ∙ get_or-set_same values n v Unset long)
+  | inr differ ↦ before slot (omega (arith, differ, within)) ∙ sym (get_or-set_other values n slot v Unset differ)
+]

@@ -193,6 +193,33 @@ impl Zones {
         }
     }
 
+    /// Makes these the values of the label's slots. A value that they have already isn't copied.
+    pub fn show(&self, label: &Label, values: &mut [LabelValue; SLOTS])
+        ensures { (slot : ℕ) → slot < SLOTS
+            → slot_value self.now label.now slot ≡ value_for values.new slot }
+    {
+        for slot in 0..SLOTS {
+            self.show_under(slot, label.handles[slot], &mut values[slot]);
+        }
+    }
+
+    /// Makes this the value that the zone of a slot has under the key. Without a key it is Unset.
+    fn show_under(&self, slot: usize, key: Option<usize>, value: &mut LabelValue)
+        requires { slot < SLOTS }
+        ensures { value_under self.now slot key ≡ value.new }
+    {
+        if self.has_under(slot, key, value) {
+            return;
+        }
+        match key {
+            Some(key) => match self.zones[slot].get(key) {
+                Some(found) => *value = *found,
+                None => *value = LabelValue::Unset,
+            },
+            None => *value = LabelValue::Unset,
+        }
+    }
+
     fn under(&self, slot: u8, key: usize) -> LabelValue
         requires { slot < SLOTS }
         ensures value { result ≡ value_under self.now slot (Some key) }

@@ -1,5 +1,6 @@
 //! What a process has open. Nothing else has descriptors.
 ghost use Rattle.std.specs.Prelude.{◌≡◌, ◌+◌, ◌<◌, ◌≤◌, length, []};
+ghost use Rattle.std.specs.Option.{option_copied};
 ghost use Rattle.mf_names.specs.declared.limits.TheConstants.{MOST_DESCRIPTORS};
 ghost use Rattle.mf_objects.specs.Index as index;
 ghost use Rattle.mf_objects.specs.Descriptors as fds;
@@ -10,8 +11,8 @@ use crate::id::Id;
 
 impl EntityData {
     /// What a process has open under this number.
-    pub fn fd(&self, number: u32) -> Option<Fd>
-        ensures { result ≡ fds.fd_in (fds.fds_of self.now) number }
+    pub fn fd(&self, number: u32) -> Option<&Fd>
+        ensures { option_copied result ≡ fds.fd_in (fds.fds_of self.now) number }
     {
         match self {
             EntityData::Process(process) => process.fds.find(number),

@@ -1,5 +1,6 @@
 //! Descriptors of processes: the files that they have open.
 ghost use Rattle.std.specs.Prelude.{◌≡◌, ◌≤◌, ◌<◌, ◌+◌, ◌^◌, length, map, IsSome, IfSome};
+ghost use Rattle.std.specs.Option.{option_copied};
 ghost use Rattle.mf_names.specs.declared.limits.TheConstants.{MOST_DESCRIPTORS};
 ghost use Rattle.mf_objects.specs.declared.descriptors.Fd.{Fd};
 ghost use Rattle.mf_objects.specs.declared.entity.Entity.{Entity};
@@ -18,10 +19,10 @@ use mf_names::MOST_DESCRIPTORS;
 
 impl Objects {
     /// What a process has open under this number.
-    pub fn fd(&self, p: Id, n: u32) -> Option<Fd>
+    pub fn fd(&self, p: Id, n: u32) -> Option<&Fd>
         requires { IsLive live.is_process self.now p }
-        ensures value { result ≡ fds.fd_in (fds.fds_at self.now p) n }
-        ensures file { IfSome result (λ fd. IsLive is_regular self.now fd.file) }
+        ensures value { option_copied result ≡ fds.fd_in (fds.fds_at self.now p) n }
+        ensures file { IfSome result (λ fd. IsLive is_regular self.now fd.now.file) }
     {
         self.entity(p).what.fd(n)
     }

@@ -172,14 +172,18 @@ impl Objects {
         requires { IsSome (live.live_at self.now id) }
         ensures { result ≡ live.label_at self.now id }
     {
+        let mut label = [LabelValue::Unset; SLOTS];
+        self.show_label(id, &mut label);
+        label
+    }
+
+    /// Makes these the values of the entity's label. Those that are so already aren't copied.
+    pub fn show_label(&self, id: Id, label: &mut [LabelValue; SLOTS])
+        requires { IsSome (live.live_at self.now id) }
+        ensures { label.new ≡ live.label_at self.now id }
+    {
         let place = self.place(id);
-        let label = &self.entities[place].label;
-        [
-            self.zones.value(label, 0),
-            self.zones.value(label, 1),
-            self.zones.value(label, 2),
-            self.zones.value(label, 3),
-        ]
+        show_values(&self.zones, &self.entities[place].label, label);
     }
 
     /// Whether these are the values of the entity's label. None of them is copied.
@@ -248,6 +252,13 @@ fn has_values(zones: &Zones, label: &Label, values: &[LabelValue; SLOTS]) -> boo
     ensures { IsTrue result ↔ (values.now ≡ label_values zones.now label.now) }
 {
     zones.holds(label, values)
+}
+
+/// Makes these the values that the zones have for the label.
+fn show_values(zones: &Zones, label: &Label, values: &mut [LabelValue; SLOTS])
+    ensures { values.new ≡ label_values zones.now label.now }
+{
+    zones.show(label, values);
 }
 
 /// The first id of at least `n` among entities that stand by rising id.

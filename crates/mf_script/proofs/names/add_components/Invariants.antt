@@ -9,6 +9,7 @@ use Rattle.mf_script.proofs.names.add_components.Given as goal
 abbrev pub invariant-loop-component : goal.invariant-loop-component
 invariant-loop-component l = record {
   so_far : all_added with_component l.path (parts (byte "/") l.rest) ≡ all_added with_component l.fn.path (parts (byte "/") l.word);
+  counted : l.depth ≡ length l.path;
   text : shadow (Utf8 l.rest);
 }
 
