@@ -1,5 +1,6 @@
 //! What happens to the parties of a policy over a history.
 ghost use Rattle.std.specs.Prelude.{◌≡◌, ◌<◌, ◌≤◌, ◌+◌, [], ◌++◌, ◌&&◌, length, map, IfOk, OnOk};
+ghost use Rattle.std.specs.Option.{option_copied};
 ghost use Rattle.mf_flow.specs.Rows.{may_come as spec_may_come};
 ghost use Rattle.mf_policy.specs.Operations.{row_of as row_of_op};
 ghost use Rattle.mf_elem.specs.declared.label.TheConstants.{SLOTS};
@@ -106,7 +107,7 @@ fn follow(
             let said = lent.get();
             let checks = passed(said, outline.checks.as_slice());
             let fd = descriptor_of_call(state, name, child, &line.call);
-            push_moves(registration, state, &fd, number, checks, past)?;
+            push_moves(registration, state, fd, number, checks, past)?;
             let asked = asked_of(said, &outline);
             run.commit(alloc, *task, *line_number, &outline.found, reply)?;
             let objects = &run.state().objects;
@@ -136,7 +137,7 @@ fn follow(
 fn push_moves(
     registration: &Registration,
     state: &State,
-    fd: &Option<Fd>,
+    fd: Option<&Fd>,
     event: u32,
     checks: &[Check],
     past: &mut Vec<Occurrence>,
@@ -144,7 +145,7 @@ fn push_moves(
     requires slot { slot_of registration.now < SLOTS }
     requires few { length checks.now ≤ MOST_CHECKS }
     ensures { OnOk result (past.new.items ≡ past.old.items
-        ++ spec.moving_from registration.now state.now fd.now event 1
+        ++ spec.moving_from registration.now state.now (option_copied fd.entry) event 1
         (map (item_of state.now.objects) checks.now)) }
 {
     for (place, check) in checks.iter().enumerate() {
@@ -157,7 +158,7 @@ fn push_moves(
 fn push_counted(
     registration: &Registration,
     state: &State,
-    fd: &Option<Fd>,
+    fd: Option<&Fd>,
     event: u32,
     number: u8,
     check: &Check,
@@ -165,7 +166,7 @@ fn push_counted(
 ) -> Result<(), AllocError>
     requires { slot_of registration.now < SLOTS }
     ensures { OnOk result (past.new.items ≡ past.old.items
-        ++ spec.moving_of registration.now state.now fd.now event number
+        ++ spec.moving_of registration.now state.now (option_copied fd.entry) event number
         (item_of state.now.objects check.now)) }
 {
     if !counts(registration, state, fd, check) {

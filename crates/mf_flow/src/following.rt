@@ -1,7 +1,7 @@
 //! The sources after each event of a history, and after each call that is committed.
 ghost use Rattle.std.specs.Prelude.{◌≡◌, ◌<◌, None, IfOk, OnOk, find, map};
 ghost use Rattle.std.specs.List.{AllByRecursion};
-ghost use Rattle.std.specs.Option.{option_zip};
+ghost use Rattle.std.specs.Option.{option_copied, option_zip};
 ghost use Rattle.mf_elem.specs.declared.label.TheConstants.{SLOTS};
 ghost use Rattle.mf_plan.specs.Outline.{item_of};
 ghost use Rattle.mf_list.specs.Asked.{slot_of};
@@ -159,19 +159,20 @@ pub(crate) fn move_passed(
     let lent = reply.lend();
     let said = lent.get();
     let checks = passed(said, outline.checks.as_slice());
-    move_in_each(alloc, state, &fd, checks, flows)
+    move_in_each(alloc, state, fd, checks, flows)
 }
 
 /// What checks that passed move, by each policy, of a call that goes through this descriptor, or through none.
 fn move_in_each(
     alloc: Global,
     state: &State,
-    fd: &Option<Fd>,
+    fd: Option<&Fd>,
     checks: &[Check],
     flows: &mut Vec<Flow>,
 ) -> Result<(), AllocError>
     requires { AllByRecursion spec.HasLabelSlot flows.old.items }
-    ensures { OnOk result (spec.EachBecomes (λ f new. new ≡ spec.flow_moved state.now fd.now
+    ensures { OnOk result (spec.EachBecomes (λ f new. new
+        ≡ spec.flow_moved state.now (option_copied fd.entry)
         (map (item_of state.now.objects) checks.now) f) flows.old.items flows.new.items) }
 {
     for place in 0..flows.len() {
@@ -183,12 +184,12 @@ fn move_in_each(
 fn move_in(
     alloc: Global,
     state: &State,
-    fd: &Option<Fd>,
+    fd: Option<&Fd>,
     checks: &[Check],
     flow: &mut Flow,
 ) -> Result<(), AllocError>
     requires { spec.HasLabelSlot flow.old }
-    ensures { OnOk result (flow.new ≡ spec.flow_moved state.now fd.now
+    ensures { OnOk result (flow.new ≡ spec.flow_moved state.now (option_copied fd.entry)
         (map (item_of state.now.objects) checks.now) flow.old) }
 {
     move_all(alloc, &flow.registration, state, fd, &mut flow.sets, checks)

@@ -1,5 +1,6 @@
 //! What the checks of a call move.
 ghost use Rattle.std.specs.Prelude.{◌≡◌, ◌<◌, filter, fold, map, unwrap_or, IfOk, OnOk};
+ghost use Rattle.std.specs.Option.{option_copied};
 ghost use Rattle.mf_elem.specs.declared.label.TheConstants.{SLOTS};
 ghost use Rattle.mf_plan.specs.Outline.{item_of};
 ghost use Rattle.mf_policy.specs.Operations.{row_of};
@@ -152,13 +153,14 @@ fn move_counted(
     alloc: Global,
     registration: &Registration,
     state: &State,
-    fd: &Option<Fd>,
+    fd: Option<&Fd>,
     sets: &mut SetList,
     check: &Check,
 ) -> Result<(), AllocError>
     requires { slot_of registration.now < SLOTS }
     ensures { OnOk result (sets.new
-        ≡ rows.rows_counted registration.now state.now fd.now sets.old check.now) }
+        ≡ rows.rows_counted registration.now state.now (option_copied fd.entry) sets.old
+        check.now) }
 {
     if !counts(registration, state, fd, check) {
         return Ok(());
@@ -173,13 +175,14 @@ pub fn move_all(
     alloc: Global,
     registration: &Registration,
     state: &State,
-    fd: &Option<Fd>,
+    fd: Option<&Fd>,
     sets: &mut SetList,
     checks: &[Check],
 ) -> Result<(), AllocError>
     requires { slot_of registration.now < SLOTS }
     ensures { OnOk result (sets.new ≡ fold (rows.rows_moved (slot_of registration.now)
-        state.now.objects) sets.old (filter (counts registration.now state.now.specs fd.now)
+        state.now.objects) sets.old
+        (filter (counts registration.now state.now.specs (option_copied fd.entry))
         (map (item_of state.now.objects) checks.now))) }
 {
     for check in checks {

@@ -1,5 +1,5 @@
 //! Which transfers through descriptors count as movements.
-ghost use Rattle.std.specs.Option.{option_eq};
+ghost use Rattle.std.specs.Option.{option_copied, option_eq};
 ghost use Rattle.std.specs.Prelude.{◌≡◌, ◌<◌};
 ghost use Rattle.mf_elem.specs.declared.label.TheConstants.{SLOTS};
 ghost use Rattle.mf_policy.specs.Answer.{object_slot, range_label};
@@ -17,9 +17,9 @@ use mf_plan::{Check, State};
 use mf_policy::{Registration, SpecList, slot_label};
 
 /// Whether a check of a call that goes through this descriptor, or through none, counts for the policy.
-pub fn counts(registration: &Registration, state: &State, fd: &Option<Fd>, check: &Check) -> bool
+pub fn counts(registration: &Registration, state: &State, fd: Option<&Fd>, check: &Check) -> bool
     requires { slot_of registration.now < SLOTS }
-    ensures { result ≡ spec.counts registration.now state.now.specs fd.now
+    ensures { result ≡ spec.counts registration.now state.now.specs (option_copied fd.entry)
         (item_of state.now.objects check.now) }
 {
     match fd {

@@ -1,5 +1,5 @@
 use Rattle.std.proofs.Common.{◌≡◌, ap, sym, subst, map, List, ℕ, Option, None, refl, ◌∙◌}
-use Rattle.std.specs.Option.{option_zip}
+use Rattle.std.specs.Option.{option_copied, option_zip}
 use Rattle.std.proofs.lemmas.Result.{on_ok_weaker}
 use Rattle.mf_calls.specs.declared.script.Script.{Script}
 use Rattle.mf_plan.specs.Planned.{Plan}
@@ -37,7 +37,7 @@ returns-in_ok-push_coming-in-Done-clause-past c =
     let request = outline.found.request in
     let caller = outline.found.caller in
     let asked = c.asked_of-asked.result in
-    let fd = c.descriptor_of_call-fd.result in
+    let fd = option_copied c.descriptor_of_call-fd.result in
     let next = c.next_id-next.result in
     let next_is = done_line s run e c.in-Done.task c.in-Done.line_number c.in-Done.reply line c.in-Done.is c.requires.may c.line_at-line.ensures in
     let said_is = c.get-said.ensures ∙ c.lend-lent.ensures in

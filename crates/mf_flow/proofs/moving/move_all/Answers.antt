@@ -1,4 +1,5 @@
 use Rattle.std.proofs.Common.{◌≡◌, Bool, true, false, cond, List, [], ◌∷◌, Option, take_all, arith, refl, ap, ◌∙◌}
+use Rattle.std.specs.Option.{option_copied}
 use Rattle.std.specs.Prelude.{filter, fold, map}
 use Rattle.mf_policy.specs.declared.registration.Registration.{Registration}
 use Rattle.mf_item.specs.Item.{Item}
@@ -29,12 +30,12 @@ counted_fold r s fd rows (check ∷ checks) = one (counts r s.specs fd (item_of 
 
 pub loop-check-preserved : goal.loop-check-preserved
 loop-check-preserved c =
-    fold_more (rows_counted c.args.registration.now c.args.state.now c.args.fd.now) c.args.sets.now c.loop-check.sets c.move_counted.new.sets c.args.checks.now c.loop-check.check-index
+    fold_more (rows_counted c.args.registration.now c.args.state.now (option_copied c.args.fd)) c.args.sets.now c.loop-check.sets c.move_counted.new.sets c.args.checks.now c.loop-check.check-index
     _ _ (omega arith) c.loop-check.invariant c.in_ok-move_counted.ensures refl
 
 pub returns : goal.returns
 returns c =
-    let step : Rows → Check → Rows = rows_counted c.args.registration.now c.args.state.now c.args.fd.now in
+    let step : Rows → Check → Rows = rows_counted c.args.registration.now c.args.state.now (option_copied c.args.fd) in
     c.loop-check.invariant
     ∙ ap (fold step c.args.sets.now) (take_all c.loop-check.check-index c.args.checks.now (omega (arith, c.loop-check-test.false)))
-    ∙ counted_fold c.args.registration.now c.args.state.now c.args.fd.now c.args.sets.now c.args.checks.now
+    ∙ counted_fold c.args.registration.now c.args.state.now (option_copied c.args.fd) c.args.sets.now c.args.checks.now

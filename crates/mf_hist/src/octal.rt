@@ -1,0 +1,41 @@
+//! Modes in base 8.
+ghost use Rattle.std.specs.Prelude.{◌≡◌, ◌<◌, ◌+◌, [], ◌∷◌, ◌++◌, false, OnOk, OnErr, codes, string_bytes};
+ghost use Rattle.std.specs.Fmt.{digits};
+ghost use Rattle.std.specs.Str.{byte};
+ghost use Rattle.mf_text.specs.Appending.{Extends};
+
+use std::alloc::AllocError;
+
+/// The mode in base 8, with its title.
+pub(crate) fn push_mode(mode: u16, out: &mut String) -> Result<(), AllocError>
+    ensures ok { OnOk result (string_bytes out.new ≡ string_bytes out.old
+        ++ (codes " mode " ++ digits 8 false mode)) }
+    ensures err { OnErr result (Extends (string_bytes out.old) (string_bytes out.new)) }
+{
+    out.push_str(" mode ")?;
+    push_octal(mode, out)
+}
+
+/// The digits of a number in base 8. No clause says what `write!` leaves of `out` where it fails, and `format!` takes memory for each
+/// mode.
+#[tactic(auto, using(crate::proofs::OctalDigits::one_digit, crate::proofs::OctalDigits::digit_more))]
+fn push_octal(number: u16, out: &mut String) -> Result<(), AllocError>
+    ensures ok { OnOk result
+        (string_bytes out.new ≡ string_bytes out.old ++ digits 8 false number) }
+    ensures err { OnErr result (Extends (string_bytes out.old) (string_bytes out.new)) }
+{
+    if number < 8 {
+        return push_octal_digit(number, out);
+    }
+    push_octal(number / 8, out)?;
+    push_octal_digit(number % 8, out)
+}
+
+fn push_octal_digit(digit: u16, out: &mut String) -> Result<(), AllocError>
+    requires { digit < 8 }
+    ensures ok { OnOk result
+        (string_bytes out.new ≡ string_bytes out.old ++ (byte "0" + digit) ∷ []) }
+    ensures err { OnErr result (Extends (string_bytes out.old) (string_bytes out.new)) }
+{
+    out.push(char::from(b'0' + digit as u8))
+}
