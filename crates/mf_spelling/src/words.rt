@@ -45,9 +45,8 @@ pub fn push_mode(mode: u16, out: &mut String) -> Result<(), AllocError>
     ensures ok { OnOk result (Adds out.old out.new (byte " " ∷ octal mode)) }
     ensures err { OnErr result (Extends (string_bytes out.old) (string_bytes out.new)) }
 {
-    // No clause says what `write!` leaves of `out` where it fails.
-    let digits = format!(in *out.allocator(); "{mode:o}")?;
-    push_word(digits.as_str(), out)
+    out.push(' ')?;
+    print_octal(mode, out)
 }
 
 /// Bytes as a text with escapes.
@@ -84,7 +83,7 @@ pub fn push_path(names: &Path, out: &mut String) -> Result<(), AllocError>
     ensures ok { OnOk result (Adds out.old out.new (byte " " ∷ piece_text (path names.now))) }
     ensures err { OnErr result (Extends (string_bytes out.old) (string_bytes out.new)) }
 {
-    if names.depth() == 0 {
+    if names.components().is_empty() {
         return out.push_str(" /");
     }
     out.push(' ')?;

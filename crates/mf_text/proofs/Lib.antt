@@ -1,3 +1,4 @@
 pub mod Appending
 pub mod Numerals
+mod OctalDigits
 pub mod Unescaping

@@ -55,7 +55,7 @@ fn ascii_text(bytes: &[u8]) -> &str
     requires { IsAscii bytes.now }
     ensures { result.now ≡ bytes.now }
 {
-    // ASCII is UTF-8, so nothing is left to check.
+    // SAFETY: ASCII is UTF-8.
     unsafe { str::from_utf8_unchecked(bytes) }
 }
 

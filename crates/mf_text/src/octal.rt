@@ -1,23 +1,26 @@
-//! Modes in base 8.
-ghost use Rattle.std.specs.Prelude.{◌≡◌, ◌<◌, ◌+◌, [], ◌∷◌, ◌++◌, false, OnOk, OnErr, codes, string_bytes};
+//! Numbers in octal digits.
+ghost use Rattle.std.specs.Prelude.{◌≡◌, ◌<◌, ◌+◌, [], ◌∷◌, ◌++◌, false, OnOk, OnErr, string_bytes};
 ghost use Rattle.std.specs.Fmt.{digits};
 ghost use Rattle.std.specs.Str.{byte};
 ghost use Rattle.mf_text.specs.Appending.{Extends};
 
 use std::alloc::AllocError;
 
-/// The mode in base 8, with its title.
-pub(crate) fn push_mode(mode: u16, out: &mut String) -> Result<(), AllocError>
-    ensures ok { OnOk result (string_bytes out.new ≡ string_bytes out.old
-        ++ (codes " mode " ++ digits 8 false mode)) }
-    ensures err { OnErr result (Extends (string_bytes out.old) (string_bytes out.new)) }
+/// Appends the number in octal digits, without leading zeros. If memory runs out, `out` is unchanged.
+pub fn print_octal(number: u16, out: &mut String) -> Result<(), AllocError>
+    ensures ok { OnOk result
+        (string_bytes out.new ≡ string_bytes out.old ++ digits 8 false number) }
+    ensures err { OnErr result (string_bytes out.new ≡ string_bytes out.old) }
 {
-    out.push_str(" mode ")?;
-    push_octal(mode, out)
+    let length = out.len();
+    let appended = push_octal(number, out);
+    if appended.is_err() {
+        out.truncate(length);
+    }
+    appended
 }
 
-/// The digits of a number in base 8. No clause says what `write!` leaves of `out` where it fails, and `format!` takes memory for each
-/// mode.
+/// The digits one by one. No clause says what `write!` leaves of `out` where it fails, and `format!` takes memory for each number.
 #[tactic(auto, using(crate::proofs::OctalDigits::one_digit, crate::proofs::OctalDigits::digit_more))]
 fn push_octal(number: u16, out: &mut String) -> Result<(), AllocError>
     ensures ok { OnOk result

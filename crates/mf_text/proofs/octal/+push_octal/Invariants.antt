@@ -1,4 +1,4 @@
-use Rattle.mf_hist.proofs.octal.+push_octal.Given as goal
+use Rattle.mf_text.proofs.octal.+push_octal.Given as goal
 
 abbrev pub decreases-push_octal : goal.decreases-push_octal
 decreases-push_octal l = l.number

@@ -1,8 +1,8 @@
 use Rattle.std.proofs.Common.{◌++◌, ◌∷◌, [], ◌+◌, ◌/◌, ◌%◌, List, ℕ, ◌∙◌, ap, append_assoc, arith, false, string_bytes, sym}
 use Rattle.std.proofs.lemmas.Result.{on_ok_weaker}
 use Rattle.std.specs.Fmt.{digits}
-use Rattle.mf_hist.proofs.OctalDigits.{digit_more}
-use Rattle.mf_hist.proofs.octal.+push_octal.Goals as goal
+use Rattle.mf_text.proofs.OctalDigits.{digit_more}
+use Rattle.mf_text.proofs.octal.+push_octal.Goals as goal
 
 pub returns-clause-ok : goal.returns-clause-ok
 returns-clause-ok t c =
