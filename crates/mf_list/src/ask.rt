@@ -27,10 +27,17 @@ impl<'a, P: Policy> Listed<'a, P> {
     {
         let room = answers(self, item);
         let answers = &room[..self.len()];
-        match item.op() {
-            CheckOp::Priv => privilege_answer(fold(answers), has_privilege(self, item)),
-            _ => Answer {
-                errno: fold(answers),
+        match (item.op(), fold(answers)) {
+            (CheckOp::Priv, composition) => privilege_answer(
+                composition,
+                has_privilege(self, item),
+            ),
+            (_, Errno::Success) => Answer {
+                errno: Errno::Success,
+                by: None,
+            },
+            (_, errno) => Answer {
+                errno,
                 by: module_at(self, decider(answers)),
             },
         }

@@ -261,7 +261,7 @@ fn renew_view(objects: &Objects, id: Id, seen: &mut ObjectView)
     seen.id = id.number();
     seen.kind = objects.kind(id);
     seen.file = objects.file(id);
-    objects.show_label(id, &mut seen.label);
+    objects.fill_label(id, &mut seen.label);
 }
 
 /// Makes the request the one that goes with a check of that operation.

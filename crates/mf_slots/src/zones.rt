@@ -193,18 +193,18 @@ impl Zones {
         }
     }
 
-    /// Makes these the values of the label's slots. A value that they have already isn't copied.
-    pub fn show(&self, label: &Label, values: &mut [LabelValue; SLOTS])
+    /// Fills `values` with those of the label's slots. A value that stands there already isn't copied.
+    pub fn fill(&self, label: &Label, values: &mut [LabelValue; SLOTS])
         ensures { (slot : ℕ) → slot < SLOTS
             → slot_value self.now label.now slot ≡ value_for values.new slot }
     {
         for slot in 0..SLOTS {
-            self.show_under(slot, label.handles[slot], &mut values[slot]);
+            self.fill_under(slot, label.handles[slot], &mut values[slot]);
         }
     }
 
-    /// Makes this the value that the zone of a slot has under the key. Without a key it is Unset.
-    fn show_under(&self, slot: usize, key: Option<usize>, value: &mut LabelValue)
+    /// Fills `value` with what the zone of a slot has under the key, with Unset where there is no key.
+    fn fill_under(&self, slot: usize, key: Option<usize>, value: &mut LabelValue)
         requires { slot < SLOTS }
         ensures { value_under self.now slot key ≡ value.new }
     {

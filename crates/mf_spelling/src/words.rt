@@ -18,7 +18,7 @@ use mf_errno::Module;
 use mf_labeltext::print_label;
 use mf_names::Path;
 use mf_rule::{Rule, print_rule};
-use mf_text::{escape, print_number};
+use mf_text::{escape, print_number, print_octal};
 use std::alloc::{AllocError, Global};
 
 /// A policy's part of a label.

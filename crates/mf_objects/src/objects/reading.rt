@@ -173,17 +173,17 @@ impl Objects {
         ensures { result ≡ live.label_at self.now id }
     {
         let mut label = [LabelValue::Unset; SLOTS];
-        self.show_label(id, &mut label);
+        self.fill_label(id, &mut label);
         label
     }
 
-    /// Makes these the values of the entity's label. Those that are so already aren't copied.
-    pub fn show_label(&self, id: Id, label: &mut [LabelValue; SLOTS])
+    /// Fills `label` with the values of the entity's label. A value that stands there already isn't copied.
+    pub fn fill_label(&self, id: Id, label: &mut [LabelValue; SLOTS])
         requires { IsSome (live.live_at self.now id) }
         ensures { label.new ≡ live.label_at self.now id }
     {
         let place = self.place(id);
-        show_values(&self.zones, &self.entities[place].label, label);
+        fill_values(&self.zones, &self.entities[place].label, label);
     }
 
     /// Whether these are the values of the entity's label. None of them is copied.
@@ -254,11 +254,11 @@ fn has_values(zones: &Zones, label: &Label, values: &[LabelValue; SLOTS]) -> boo
     zones.holds(label, values)
 }
 
-/// Makes these the values that the zones have for the label.
-fn show_values(zones: &Zones, label: &Label, values: &mut [LabelValue; SLOTS])
+/// Fills `values` with those that the zones have for the label.
+fn fill_values(zones: &Zones, label: &Label, values: &mut [LabelValue; SLOTS])
     ensures { values.new ≡ label_values zones.now label.now }
 {
-    zones.show(label, values);
+    zones.fill(label, values);
 }
 
 /// The first id of at least `n` among entities that stand by rising id.
