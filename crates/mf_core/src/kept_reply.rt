@@ -1,12 +1,10 @@
 //! Replies as a history keeps them.
 ghost use Rattle.std.specs.Prelude.{◌≡◌, IfOk, IsOk, false};
-ghost use Rattle.mf_perform.specs.Passed.{passed};
 ghost use Rattle.mf_perform.specs.Refused.{is_ok};
 
 use mf_errno::{Errno, Module};
 use mf_item::CheckOp;
-use mf_perform::{passed, passed_before};
-use mf_plan::{Check, Payload, Reply};
+use mf_plan::{Payload, Reply};
 use std::alloc::{AllocError, Global};
 use std::marker::Model;
 
@@ -74,17 +72,6 @@ impl KeptReply {
             Kept::Done => true,
             Kept::Denied { .. } | Kept::Refused(_) => false,
             Kept::Other(reply) => is_done(reply),
-        }
-    }
-
-    /// The checks of the call that passed, by this reply.
-    pub fn passed<'a>(&self, checks: &'a [Check]) -> &'a [Check]
-        ensures { result.now ≡ passed self.now checks.now }
-    {
-        match &self.kept {
-            Kept::Done | Kept::Refused(_) => checks,
-            Kept::Denied { item, .. } => passed_before(*item, checks),
-            Kept::Other(reply) => passed(reply, checks),
         }
     }
 

@@ -23,6 +23,7 @@ use mf_calls::{Line, Script};
 use mf_core::{Event, KeptReply, Run};
 use mf_elem::Elem;
 use mf_objects::{Fd, Id, Objects};
+use mf_perform::passed;
 use mf_plan::{Check, Found, LastLabel, Outline, State, descriptor_of_call};
 use mf_policy::{Registration, slot_label};
 use std::alloc::{AllocError, Global};
@@ -136,7 +137,7 @@ fn follow_call(
     settle_each(alloc, next, objects, &outline.found, reply.is_ok(), flows)
 }
 
-/// What the checks of a call move that passed, by each policy.
+/// What the checks of a call move that passed, by each policy. A reply is wide: it is lent apart from what may fail.
 pub(crate) fn move_passed(
     alloc: Global,
     state: &State,
@@ -155,7 +156,9 @@ pub(crate) fn move_passed(
         flows.old.items flows.new.items) }
 {
     let fd = descriptor_of_call(state, task, line.child_name(), &line.call);
-    let checks = reply.passed(outline.checks.as_slice());
+    let lent = reply.lend();
+    let said = lent.get();
+    let checks = passed(said, outline.checks.as_slice());
     move_in_each(alloc, state, fd, checks, flows)
 }
 

@@ -1,6 +1,6 @@
 //! What the checks of a call make of its caller: where mac_lomac is listed, each that passed lowers
 //! it to the element of what it observed, where that doesn't dominate its own.
-ghost use Rattle.std.specs.Prelude.{◌≡◌, ◌<◌, ◌-◌, false, true, Option, Some, IsSome, map, take};
+ghost use Rattle.std.specs.Prelude.{◌≡◌, ◌<◌, false, true, Option, Some, IsSome, map};
 ghost use Rattle.mf_elem.specs.declared.label.TheConstants.{SLOTS};
 ghost use Rattle.mf_elem.specs.declared.label.LabelValue.TheVariants.{Unset};
 ghost use Rattle.mf_elem.specs.declared.label.Request.{Request};
@@ -27,20 +27,15 @@ pub fn passed<'a>(reply: &Reply, checks: &'a [Check]) -> &'a [Check]
     ensures { result.now ≡ spec.passed reply.now checks.now }
 {
     match reply {
-        Reply::Denied { item, .. } => passed_before(*item, checks),
+        Reply::Denied { item, .. } => {
+            let passed = (*item as usize).saturating_sub(1);
+            if passed < checks.len() {
+                &checks[..passed]
+            } else {
+                checks
+            }
+        }
         Reply::Ok(_) | Reply::Refused(_) => checks,
-    }
-}
-
-/// The checks that passed before one was denied, by its number from 1.
-pub fn passed_before(item: u8, checks: &[Check]) -> &[Check]
-    ensures { result.now ≡ take (item - 1) checks.now }
-{
-    let passed = (item as usize).saturating_sub(1);
-    if passed < checks.len() {
-        &checks[..passed]
-    } else {
-        checks
     }
 }
 
