@@ -3,10 +3,12 @@ ghost use Rattle.std.specs.Prelude.{◌≡◌, ◌≤◌, ℕ, List, [], length,
 ghost use Rattle.std.specs.Option.{option_copied};
 ghost use Rattle.mf_objects.specs.Live.{is_process, live_at};
 ghost use Rattle.mf_objects.specs.Lives.{IsLive, is_regular};
+ghost use Rattle.mf_objects.specs.declared.id.Id.{Id};
 ghost use Rattle.mf_calls.specs.WellFormed.{IsName};
 ghost use Rattle.mf_calls.specs.declared.script.Call.TheVariants as call;
 ghost use Rattle.mf_plan.specs.Ended.{end_for, ended_by};
 ghost use Rattle.mf_plan.specs.declared.descriptors.Access.TheVariants.{Reading, Writing, Any};
+ghost use Rattle.mf_plan.specs.declared.state.State.{State};
 ghost use Rattle.mf_plan.specs.Found as found;
 ghost use Rattle.mf_plan.specs.Names.{caller_name};
 ghost use Rattle.mf_plan.specs.Outline as outline;
@@ -60,18 +62,17 @@ fn opened_at(objects: &Objects, caller: Id, access: Access, n: u32) -> Option<&F
     if access.allows(fd) { Some(fd) } else { None }
 }
 
-/// The descriptor that a call of this live process goes through. The clause says so of every call by its place, so a call that is new
-/// and goes through one is refused here until it has its line.
-fn descriptor_at<'a>(state: &'a State, caller: Id, call: &Call) -> Option<&'a Fd>
-    requires { IsLive is_process state.now.objects caller }
-    ensures value { (task : List ℕ) → option_copied result ≡ found.descriptor_at state.now caller
-        (rows.about_of state.now task caller call.now).place }
-    ensures file { IfSome result (λ fd. IsLive is_regular state.now.objects fd.now.file) }
+/// How a call uses a descriptor, and the number of that, where it goes through one. The clause says so of every call by its place, so a
+/// call that is new and goes through one is refused here until it has its line.
+fn access_of(call: &Call) -> Option<(Access, u32)>
+    ensures { (s : State) (task : List ℕ) (me : Id) →
+        option_and_then (λ used. ways.opened_at s.objects me used.0 used.1) result
+        ≡ found.descriptor_at s me (rows.about_of s task me call.now).place }
 {
     match call {
-        Call::Fread(n) => opened_at(&state.objects, caller, Access::Reading, *n),
-        Call::Fwrite(n, _) => opened_at(&state.objects, caller, Access::Writing, *n),
-        Call::Close(n) => opened_at(&state.objects, caller, Access::Any, *n),
+        Call::Fread(n) => Some((Access::Reading, *n)),
+        Call::Fwrite(n, _) => Some((Access::Writing, *n)),
+        Call::Close(n) => Some((Access::Any, *n)),
         _ => None,
     }
 }
@@ -92,13 +93,9 @@ pub fn descriptor_of_call<'a>(
         (process_named state.now.objects (caller_name task.now (option_copied child.entry))) }
     ensures file { IfSome result (λ fd. IsLive is_regular state.now.objects fd.now.file) }
 {
-    match call {
-        Call::Fread(_) | Call::Fwrite(..) | Call::Close(_) => {
-            let caller = caller_of(&state.objects, task, child)?;
-            descriptor_at(state, caller, call)
-        }
-        _ => None,
-    }
+    let (access, n) = access_of(call)?;
+    let caller = caller_of(&state.objects, task, child)?;
+    opened_at(&state.objects, caller, access, n)
 }
 
 /// What mac_biba has in its slot of an entity's label.
