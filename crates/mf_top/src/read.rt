@@ -20,7 +20,7 @@ use std::alloc::{AllocError, Global};
 const PIECE_BYTES: usize = 4096;
 
 /// Why a source was not read to its end.
-#[derive(Clone, Copy, Debug, PartialEq, Eq)]
+#[derive(Clone, Copy)]
 pub enum ReadError {
     /// A read failed.
     Failed,
