@@ -1,6 +1,7 @@
 //! What the listed policies answer together.
 ghost use Rattle.std.specs.Prelude.{◌≡◌, length, map, option_and_then, take};
 ghost use Rattle.std.specs.List.{list_any};
+ghost use Rattle.mf_compose.specs.Composition.{composition, decider};
 ghost use Rattle.mf_list.specs.Asked as spec;
 
 use crate::listed::Listed;
@@ -27,20 +28,30 @@ impl<'a, P: Policy> Listed<'a, P> {
     {
         let room = answers(self, item);
         let answers = &room[..self.len()];
-        match (item.op(), fold(answers)) {
-            (CheckOp::Priv, composition) => privilege_answer(
-                composition,
-                has_privilege(self, item),
-            ),
-            (_, Errno::Success) => Answer {
-                errno: Errno::Success,
-                by: None,
-            },
-            (_, errno) => Answer {
-                errno,
-                by: module_at(self, decider(answers)),
-            },
+        match item.op() {
+            CheckOp::Priv => privilege_answer(fold(answers), has_privilege(self, item)),
+            _ => composed(self, answers),
         }
+    }
+}
+
+/// The composition of the policies' answers, and the policy that decides it. Most checks pass, and are decided by none.
+#[tactic(auto, unfolding(mf_compose::specs::Composition::decider))]
+fn composed<P: Policy>(listed: &Listed<'_, P>, answers: &[Errno]) -> Answer
+    ensures { result ≡ record {
+      errno = composition answers.now;
+      by = option_and_then (spec.module_at listed.now) (decider answers.now);
+    } }
+{
+    match fold(answers) {
+        Errno::Success => Answer {
+            errno: Errno::Success,
+            by: None,
+        },
+        errno => Answer {
+            errno,
+            by: module_at(listed, decider(answers)),
+        },
     }
 }
 
