@@ -168,24 +168,27 @@ const CHILD: &str = "fork c -> ok
 @c pipe p -> ok
 ";
 
-/// Whether a child and its pipe get their labels.
+/// A child and its pipe get their labels.
 fn labels_child(
     rt: &impl Abort,
     alloc: Global,
     machine: &mut Machine<Biba>,
-) -> Result<bool, AllocError> {
+) -> Result<(), AllocError> {
     run(rt, alloc, machine, CHILD)?;
     let low = labelled(Elem::Low, None);
     let wide = labelled(Elem::Low, Some((Elem::Low, Elem::High)));
-    Ok(are_labelled(&machine.state.objects, &wide, &low))
+    wants(
+        rt,
+        "labels",
+        are_labelled(&machine.state.objects, &wide, &low),
+    );
+    Ok(())
 }
 
 #[test]
 fn labels_of_a_child_and_of_its_pipe(rt: HostRuntime) -> Result<(), AllocError> {
     let mut machine = booted(&rt, rt.alloc(), Elem::Low, Elem::High)?;
-    let are_labelled = labels_child(&rt, rt.alloc(), &mut machine)?;
-    wants(&rt, "labels", are_labelled);
-    Ok(())
+    labels_child(&rt, rt.alloc(), &mut machine)
 }
 
 /// Whether a child has its maker's label, and no partition, where mac_partition is younger than the maker.
@@ -263,11 +266,19 @@ fn fill_socket(
     run(rt, alloc, machine, FULL)
 }
 
+fn fill_both(
+    rt: &impl Abort,
+    alloc: Global,
+    machine: &mut Machine<Biba>,
+) -> Result<(), AllocError> {
+    fill_pipe(rt, alloc, machine)?;
+    fill_socket(rt, alloc, machine)
+}
+
 #[test]
 fn what_is_taken_makes_room(rt: HostRuntime) -> Result<(), AllocError> {
     let mut machine = booted(&rt, rt.alloc(), Elem::Low, Elem::High)?;
-    fill_pipe(&rt, rt.alloc(), &mut machine)?;
-    fill_socket(&rt, rt.alloc(), &mut machine)
+    fill_both(&rt, rt.alloc(), &mut machine)
 }
 
 /// Calls of a process that is low, beside one that is high.

@@ -94,10 +94,21 @@ fn has_grade(objects: &Objects, grade: u16) -> bool {
 }
 
 /// Whether t has this grade after the calls.
+fn sinks_by(
+    rt: &impl Abort,
+    alloc: Global,
+    machine: &mut Machine<Lomac>,
+    calls: &str,
+    grade: u16,
+) -> Result<bool, AllocError> {
+    run(rt, alloc, machine, calls)?;
+    Ok(has_grade(&machine.state.objects, grade))
+}
+
+/// The same from the beginning.
 fn sinks_to(rt: &impl Abort, alloc: Global, calls: &str, grade: u16) -> Result<bool, AllocError> {
     let mut machine = booted(rt, alloc)?;
-    run(rt, alloc, &mut machine, calls)?;
-    Ok(has_grade(&machine.state.objects, grade))
+    sinks_by(rt, alloc, &mut machine, calls, grade)
 }
 
 #[test]

@@ -50,18 +50,29 @@ fn keep_open(
     run(rt, alloc, machine, CLOSED)
 }
 
-/// The same from the beginning, with revocation or without.
+/// The same with revocation or without.
 fn keep_open_where(
+    rt: &impl Abort,
+    alloc: Global,
+    machine: &mut Machine<Biba>,
+    is_revoked: bool,
+    read: &str,
+) -> Result<(), AllocError> {
+    if is_revoked {
+        revoke(alloc, machine)?;
+    }
+    keep_open(rt, alloc, machine, read)
+}
+
+/// The same from the beginning.
+fn keep_open_anew(
     rt: &impl Abort,
     alloc: Global,
     is_revoked: bool,
     read: &str,
 ) -> Result<(), AllocError> {
     let mut machine = booted(rt, alloc, Elem::High, Elem::Low)?;
-    if is_revoked {
-        revoke(alloc, &mut machine)?;
-    }
-    keep_open(rt, alloc, &mut machine, read)
+    keep_open_where(rt, alloc, &mut machine, is_revoked, read)
 }
 
 /// Whether revocation is on, and how a read of the open file is answered.
@@ -70,7 +81,7 @@ const READS: &[(bool, &str)] = &[(false, "ok"), (true, "EACCES vnode_read 1")];
 #[test]
 fn an_open_file_is_read_on_without_revocation(rt: HostRuntime) -> Result<(), AllocError> {
     for (is_revoked, read) in READS {
-        keep_open_where(&rt, rt.alloc(), *is_revoked, read)?;
+        keep_open_anew(&rt, rt.alloc(), *is_revoked, read)?;
     }
     Ok(())
 }
