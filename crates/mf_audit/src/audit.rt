@@ -19,8 +19,8 @@ pub enum Audit {
     Wrong(u32),
 }
 
-/// Whether the history is a legal one of the script, and complete. Of the history nothing is asked: its lines may be more than
-/// numbers count, since no wrong one lies further than any legal history goes.
+/// Whether the history is a legal one of the script, and complete. Any history may be given, even one with more lines than a u32
+/// counts: the first wrong line lies at most one behind a legal history.
 pub fn audit_history(alloc: Global, script: &Script, history: &History) -> Result<Audit, AllocError>
     requires { IsWellFormed script.now }
     ensures { IfOk result (IsAudit script.now history.now) }

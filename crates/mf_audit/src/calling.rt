@@ -33,7 +33,7 @@ pub struct Attempt<'c> {
 }
 
 impl Kernel {
-    /// Goes on by the call of a line of the task, and answers whether this is its reply. Where it isn't, nobody can go on.
+    /// Does the call of a line of the task, and answers whether this is its reply. After false nothing is known of the kernel.
     pub(crate) fn go_on(
         &mut self,
         alloc: Global,
@@ -86,7 +86,7 @@ impl Kernel {
         self.conclude(alloc, task, me, line, given, &Attempt { walk, end })
     }
 
-    /// Goes on by a call whose checks were gone through, and that may be done or not. Lent, it isn't freed at each way out.
+    /// Compares the reply with the attempt, and makes what that changes. The attempt is lent, so that it isn't freed at each way out.
     fn conclude(
         &mut self,
         alloc: Global,

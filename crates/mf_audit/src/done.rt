@@ -64,10 +64,10 @@ pub enum Effect<'c> {
     SetMode(PartyId, u16),
     /// The caller has one descriptor more.
     Open(OpenFile),
-    /// It has that of this number no more.
+    /// The caller's descriptor of this number is closed.
     Close(u32),
     Unlink(PartyId),
-    /// The caller goes, with its pipes and sockets.
+    /// The caller exits, and its pipes and sockets go with it.
     End,
     Relabel(PartyId, Request),
     Load(Module),

@@ -17,7 +17,6 @@ use mf_cred::ArrayVec;
 use mf_elem::{LabelValue, SLOTS};
 use mf_errno::Module;
 use mf_item::Kind;
-use mf_names::Name;
 use mf_objects::HEAD_BYTES;
 use mf_parties::{Parties, PartyId, Text};
 use mf_plan::{LabelPart, Loaded, Payload};

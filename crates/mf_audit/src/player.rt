@@ -54,7 +54,7 @@ impl<'s> Player<'s> {
         })
     }
 
-    /// Goes on by the event where it may come. Where it may not, nobody can go on.
+    /// Takes the event where it may come, and answers whether it may. After false nothing is known of the player.
     pub(crate) fn take(&mut self, alloc: Global, event: &Event) -> Result<bool, AllocError>
         requires { IsReached self.old.script self.old.run }
         ensures { IfOk result (Takes self.old event.now self.new) }

@@ -59,7 +59,7 @@ pub(crate) fn make_socket<'c>(
     Ok(Done::changes(Effect::MakeSocket(name.as_str())))
 }
 
-/// The caller goes.
+/// The caller exits.
 pub(crate) fn exit<'c>(_kernel: &Kernel, _me: PartyId) -> Result<Done<'c>, Errno>
     ensures { (task : List ℕ) → (walk : _) → Goes _kernel.now task _me
         ((rows.about_of _kernel.now task _me call.Exit).row (tt {0})) walk walk result }

@@ -57,7 +57,7 @@ impl Standings {
         self.items[task]
     }
 
-    /// The task is at that in its line.
+    /// Sets the phase of the task.
     pub fn set_phase(&mut self, task: usize, phase: Phase)
         requires { task < length self.old }
         ensures { self.new ≡ spec.with_phase self.old task phase }

@@ -177,7 +177,7 @@ pub(crate) fn claimed(kernel: &Kernel, kind: Kind, text: &Word) -> Result<Reques
     }
 }
 
-/// What a label text asks of a file or directory, and that.
+/// What a label text asks of the file or directory at a path, and the id of it.
 pub(crate) fn asked_file(
     kernel: &Kernel,
     walk: &mut Walk,
@@ -197,7 +197,7 @@ pub(crate) fn asked_file(
     Ok((request, id))
 }
 
-/// What a label text asks of a pipe or a socket, and that.
+/// What a label text asks of the pipe or socket of a name, and the id of it.
 pub(crate) fn asked_named(
     kernel: &Kernel,
     kind: Kind,

@@ -133,7 +133,7 @@ fn follow(
     }
 }
 
-/// What checks move that passed.
+/// What checks that passed move.
 fn push_moves(
     registration: &Registration,
     state: &State,
@@ -288,7 +288,7 @@ fn push_coming(
     }
 }
 
-/// The entity is relabelled, where one is asked for and was made, and gets an element by it.
+/// The entity is relabelled, where the call is done and asks for an element by the policy.
 fn push_relabelling(
     registration: &Registration,
     objects: &Objects,

@@ -94,7 +94,7 @@ fn step_of(occurrence: &Occurrence, party: Id) -> Step
     }
 }
 
-/// What a party holds to which another hands on what it holds.
+/// What the one party holds after the other hands on to it what it holds.
 fn received(
     alloc: Global,
     occurrence: &Occurrence,
@@ -176,8 +176,7 @@ fn exchange(
     sets.put(alloc, object.number(), to_object)
 }
 
-/// What a party holds that is labelled: its own element comes first, and then what its maker holds. One that is equal holds
-/// nothing.
+/// What a party holds once it is labelled: its own element, and what its maker holds besides. One labelled equal holds nothing.
 fn first_set(
     alloc: Global,
     step: Step,

@@ -51,8 +51,8 @@ impl Links {
         self.items.len()
     }
 
-    #[tactic(auto, using(crate::proofs::Linking::chains_length, crate::proofs::Linking::linked_push))]
     /// Appends the link of the origin of a chain, and returns its place. If memory runs out, nothing changes.
+    #[tactic(auto, using(crate::proofs::Linking::chains_length, crate::proofs::Linking::linked_push))]
     pub fn begin(&mut self, origin: Step) -> Result<usize, AllocError>
         ensures place { IfOk result (λ place. place ≡ length self.old) }
         ensures ok { OnOk result (self.new
@@ -67,8 +67,8 @@ impl Links {
         Ok(place)
     }
 
-    #[tactic(auto, using(crate::proofs::Linking::chains_length, crate::proofs::Linking::linked_push))]
     /// Appends the link of a step behind a chain, and returns its place. If memory runs out, nothing changes.
+    #[tactic(auto, using(crate::proofs::Linking::chains_length, crate::proofs::Linking::linked_push))]
     pub fn go_on(&mut self, before: usize, step: Step) -> Result<usize, AllocError>
         requires { before < length self.old }
         ensures place { IfOk result (λ place. place ≡ length self.old) }

@@ -80,7 +80,7 @@ fn reach(alloc: Global, sets: &mut Vec<Listing<Mark>>, place: usize) -> Result<(
     Ok(())
 }
 
-/// What a party then holds to which another hands on what it holds, with this step: to what it holds comes what it lacks.
+/// What a party with the set holds after another hands on what is given, in this step: its own elements, and those that it lacked.
 pub fn joined(
     alloc: Global,
     links: &mut Links,
@@ -143,7 +143,7 @@ pub fn lacks_none(set: &[Mark], given: &[Mark]) -> bool
     true
 }
 
-/// How the element at that place of a set compares with another. Behind the last, each comes before the end.
+/// How the element at that place of a set compares with another; Greater behind the last.
 fn order_at(set: &[Mark], place: usize, given: &Mark) -> Ordering
     ensures { result ≡ order_from (drop place set.now) given.now }
 {

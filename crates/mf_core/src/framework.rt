@@ -35,7 +35,7 @@ use mf_policy::Policy;
 use std::alloc::{AllocError, Global};
 use std::marker::Model;
 
-/// A run of a script so far. Contracts see the script and the history, which is legal and determines all else.
+/// A run of a script with its history so far. Contracts see the script and the history, which is legal and determines all else.
 #[derive(Drop)]
 pub struct Core<'s> {
     run: Run<'s>,

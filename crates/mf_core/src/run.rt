@@ -125,7 +125,7 @@ impl<'s> Run<'s> {
     }
 
     /// Whether this is the plan of the call of the task's next line in the present state. The outline becomes that of the call.
-    pub fn has_plan(&self, task: u32, plan: &Plan, outline: &mut Outline) -> bool
+    pub(crate) fn has_plan(&self, task: u32, plan: &Plan, outline: &mut Outline) -> bool
         requires task { task < length self.now.script.tasks }
         requires line { IsSome (next_line self.now.script self.now.run.progress task) }
         ensures is { IsTrue result ↔ (next_plan self.now.script self.now.run task ≡ Some plan.now) }

@@ -44,7 +44,7 @@ impl Flow {
     }
 }
 
-/// What is kept from call to call, where it is made anew for each.
+/// The last label text and the last outline, kept so that the next call uses their room again.
 #[derive(Drop)]
 pub struct Workspace {
     last: LastLabel,
@@ -137,7 +137,7 @@ fn follow_call(
     settle_each(alloc, next, objects, &outline.found, reply.is_ok(), flows)
 }
 
-/// What the checks of a call move that passed, by each policy. A reply is wide: it is lent apart from what may fail.
+/// What the checks of a call that passed move, by each policy. A reply is wide: it is lent apart from what may fail.
 pub(crate) fn move_passed(
     alloc: Global,
     state: &State,
@@ -267,6 +267,8 @@ fn maker_sources(sets: &SetList, maker: Option<Id>) -> &[Elem]
     }
 }
 
+/// The sources that the first live entity from that number on begins with: its own element, and its maker's sources. None where there is no
+/// such entity.
 pub fn new_sources(
     alloc: Global,
     slot: u8,

@@ -319,7 +319,7 @@ fn commit(
     Ok(())
 }
 
-/// Notes what the checks of a call move that passed. False where nothing is tracked, or memory runs out.
+/// Notes what the checks of a call that passed move. False where nothing is tracked, or memory runs out.
 fn note_moves(
     alloc: Global,
     state: &State,

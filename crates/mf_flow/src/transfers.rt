@@ -10,7 +10,7 @@ ghost use Rattle.mf_flow.specs.Transfers as spec;
 
 use crate::effective::element_at;
 use crate::order::compare;
-use mf_elem::{Elem, LabelValue};
+use mf_elem::Elem;
 use mf_errno::Module;
 use mf_objects::{Fd, Objects};
 use mf_plan::{Check, State};

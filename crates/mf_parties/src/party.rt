@@ -109,7 +109,7 @@ impl Party {
         }
     }
 
-    /// If memory runs out, it is unchanged.
+    /// Makes the change. If memory runs out, the party is unchanged.
     pub fn grow(&mut self, growth: Growth) -> Result<(), AllocError>
         ensures ok { OnOk result (self.new ≡ grown growth.entry self.old) }
         ensures err { OnErr result (self.new ≡ self.old) }

@@ -3,7 +3,7 @@ ghost use Rattle.std.specs.Prelude.{◌≡◌, ◌==◌};
 
 use std::marker::Model;
 
-/// The id of a party: those of the entities that the definitions speak of.
+/// The id of a party, which is that of the entity in the definitions.
 #[derive(Clone, Copy)]
 pub struct PartyId {
     number: u32,

@@ -19,8 +19,8 @@ pub(crate) struct Opening {
     pub(crate) object: LabelValue,
 }
 
-/// What it has in the labels of the caller and of what was found, where the call opens a file.
-/// Else nothing asks for it.
+/// What mac_biba has in the labels of the caller and of the file, where the call opens one. For any other call both are Unset, and
+/// nothing asks for them.
 pub(crate) fn opening_of(state: &State, found: &Found, call: &Call) -> Opening
     requires caller { IfSome found.now.caller (λ id. IsSome (live_at state.now.objects id)) }
     requires file { IfSome found.now.target (λ id. IsSome (live_at state.now.objects id)) }
@@ -39,7 +39,7 @@ pub(crate) fn opening_of(state: &State, found: &Found, call: &Call) -> Opening
     }
 }
 
-/// What it has in the label of what was found; Unset where nothing was.
+/// What mac_biba has in the label of what was found; Unset where nothing was.
 fn biba_found(state: &State, found: Option<Id>) -> LabelValue
     requires { IfSome found (λ id. IsSome (live_at state.now.objects id)) }
     ensures { result ≡ spec.biba_found state.now found }

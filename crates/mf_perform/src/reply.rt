@@ -36,7 +36,7 @@ fn denied(plan: &Plan, denial: Denial) -> Reply
     }
 }
 
-/// The operation of the check of that number, from 1.
+/// The operation of the check of that number, from 1; vnode_lookup where the plan has no such check.
 fn op_at(plan: &Plan, number: u8) -> CheckOp
     ensures { result ≡ spec.op_at plan.now.items number }
 {

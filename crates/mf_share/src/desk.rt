@@ -26,9 +26,9 @@ use std::alloc::{AllocError, Global};
 use std::marker::Model;
 use std::sync::ledger::{Book, Ledger};
 
-/// A core of the script that `J` names, with its sources, the total of lines done and that of what open entries weigh. Contracts see the
-/// core. It agrees with a pass or a ticket where the core's turn of the task, and its lines done, are those that the
-/// pass or the ticket says.
+/// A core of the script that `J` names, with its sources, the total of lines done, and that of what open entries weigh. Contracts see
+/// the core. It agrees with a pass or a ticket where the core's turn of the task, and its lines done, are those that the pass or the
+/// ticket says.
 #[derive(Drop)]
 pub struct Desk<'s, J: Job, B: Ledger> {
     pub(crate) tracked: TrackedCore<'s>,

@@ -53,8 +53,7 @@ impl<J: Job, B: Ledger> Model for Own<J, B> {
 /// |---|---|---|
 /// | `enter` | one | Enter |
 /// | `plan` | one | none |
-/// | `turn`, `policies`, `walk` | none | none |
-/// | `fixed` | none | none |
+/// | `turn`, `fixed`, `policies`, `walk` | none | none |
 /// | `commit` | one | Done; none for `Stale`, and where memory runs out |
 /// | `leave` | one | Leave |
 /// | `change` | one for each look while it waits | Changed at the last; none where memory runs out |

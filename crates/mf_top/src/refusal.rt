@@ -62,8 +62,8 @@ impl Refusal {
         }
     }
 
-    /// The line that is written in their place, for the chains behind the text of the run. Only that text, and a line with a
-    /// number, of a line or of a step, take memory.
+    /// What is written instead of what was asked for: one line, and in front of it the text of the run where there are too many
+    /// chains. Only that text and a line that has a number take memory.
     pub fn text(self, alloc: Global) -> Result<CowStr<'static>, AllocError>
         ensures text { IfOk result (λ text. cow_str_bytes text ≡ refusal_text self) }
         ensures memory { OnErr result (TakesMemory self) }

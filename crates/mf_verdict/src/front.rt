@@ -1,5 +1,5 @@
-//! The front of a text that has more than any history has. Memory is taken for what is read, so no more is read than a history may have: a reply with
-//! rules, for one, takes a thousand times the bytes of its line.
+//! The front of a text that has more than any history has. Memory is taken for what is read, so no more is read than a history may
+//! have: a reply with rules, for one, takes a thousand times the bytes of its line.
 ghost use Rattle.std.specs.Prelude.{◌≤◌, length, IfOk, IfSome};
 ghost use Rattle.mf_calls.specs.WellFormed.{IsWellFormed};
 ghost use Rattle.mf_verdict.specs.Pieces.{pieces};

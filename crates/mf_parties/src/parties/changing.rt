@@ -21,7 +21,7 @@ use mf_names::Name;
 use std::alloc::{AllocError, Global};
 
 impl Parties {
-    /// One party more, under the next id.
+    /// Adds a party under the next id.
     pub fn add(
         &mut self,
         alloc: Global,

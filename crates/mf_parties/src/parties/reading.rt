@@ -109,7 +109,7 @@ impl Parties {
         }
     }
 
-    /// It as an object of a check.
+    /// The party as the object of a check.
     pub fn object(&self, id: PartyId) -> ObjectView
         requires { IsSome (live.live_at self.now id) }
         ensures { result ≡ view_at self.now id }
@@ -130,30 +130,8 @@ impl Parties {
         }
     }
 
-    /// A process as the subject of a check.
-    pub fn process(&self, id: PartyId) -> SubjectView
-        requires { IsSome (live.live_at self.now id) }
-        ensures { result ≡ record {
-          id = id.0;
-          cred = live.cred_at self.now id;
-          label = live.label_at self.now id;
-        } }
-    {
-        match self.at(id) {
-            None => SubjectView {
-                id: id.number(),
-                cred: Cred::default(),
-                label: [LabelValue::Unset; SLOTS],
-            },
-            Some(party) => SubjectView {
-                id: id.number(),
-                cred: party.what.cred(),
-                label: party.label,
-            },
-        }
-    }
-
-    /// The same, with the id and the label of another party.
+    /// The subject of a check: the credential of the caller, with the id and the label of a party, which is the caller itself or
+    /// a socket of its own.
     pub fn subject(&self, caller: PartyId, of: PartyId) -> SubjectView
         requires { IsSome (live.live_at self.now of) }
         ensures { result ≡ record {

@@ -10,7 +10,7 @@ use crate::party::Party;
 use crate::party_id::PartyId;
 
 impl Parties {
-    /// Without a file or a directory, and without all that is open on it.
+    /// Removes a file or a directory, and closes all descriptors on it.
     pub fn remove_vnode(&mut self, id: PartyId)
         requires { id.0 ≢ 0 }
         ensures { self.new ≡ fds.without_vnode id self.old }
@@ -19,7 +19,7 @@ impl Parties {
         remove(&mut self.list, id);
     }
 
-    /// Without a process, and without the pipes and the sockets that it made.
+    /// Removes a process, and the pipes and sockets that it made.
     pub fn remove_process(&mut self, id: PartyId)
         requires { IsLive live.is_process self.old id }
         ensures { self.new ≡ without (goes_with id) self.old }
