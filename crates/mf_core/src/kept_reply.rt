@@ -80,28 +80,19 @@ impl KeptReply {
         ensures { result ≡ self.now }
     {
         match &self.kept {
-            Kept::Done => LentReply {
-                kept: None,
-                made: Reply::Ok(Payload::None),
-            },
+            Kept::Done => LentReply::of(Reply::Ok(Payload::None)),
             Kept::Denied {
                 errno,
                 op,
                 item,
                 by,
-            } => LentReply {
-                kept: None,
-                made: Reply::Denied {
-                    errno: *errno,
-                    op: *op,
-                    item: *item,
-                    by: *by,
-                },
-            },
-            Kept::Refused(errno) => LentReply {
-                kept: None,
-                made: Reply::Refused(*errno),
-            },
+            } => LentReply::of(Reply::Denied {
+                errno: *errno,
+                op: *op,
+                item: *item,
+                by: *by,
+            }),
+            Kept::Refused(errno) => LentReply::of(Reply::Refused(*errno)),
             Kept::Other(reply) => LentReply {
                 kept: Some(reply),
                 made: Reply::Ok(Payload::None),
@@ -135,6 +126,12 @@ impl<'a> Model for LentReply<'a> {
 }
 
 impl<'a> LentReply<'a> {
+    fn of(made: Reply) -> LentReply<'a>
+        ensures { result ≡ made }
+    {
+        LentReply { kept: None, made }
+    }
+
     /// The reply.
     pub fn get(&self) -> &Reply
         ensures { result.now ≡ self.now }
