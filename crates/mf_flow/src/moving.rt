@@ -52,7 +52,8 @@ fn joined(
     Ok(Some(both))
 }
 
-/// The sources of one party come to another.
+/// The sources of one party come to another. Each check that moves goes through here.
+#[inline(always)]
 fn receive(
     alloc: Global,
     slot: u8,
