@@ -77,6 +77,7 @@ const TESTS: &[&str] = &[
 const OF_TESTS: &[Row] = &[
     (5, false, [true, true, false, true, false]),
     (6, true, [false, true, true, false, false]),
+    (6, false, [false, true, false, true, false]),
 ];
 
 #[test]

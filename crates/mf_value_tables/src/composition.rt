@@ -21,6 +21,7 @@ const ANSWERS: &[(&[Errno], Errno, Option<usize>)] = &[
         Some(1),
     ),
     (&[Errno::Eperm, Errno::Ebusy], Errno::Eperm, Some(0)),
+    (&[Errno::Enomem, Errno::Ebusy], Errno::Ebusy, Some(1)),
     (
         &[Errno::Enomem, Errno::Ebusy, Errno::Enomem],
         Errno::Enomem,

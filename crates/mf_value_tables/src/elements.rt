@@ -85,6 +85,7 @@ fn elements_without_compartments() -> bool {
 
 /// Two elements, and whether they are of one level.
 const LEVELS: &[(Level, Level, bool)] = &[
+    (Grade(5, &[1]), Grade(5, &[2]), false),
     (Grade(5, &[1]), Grade(9, &[2]), false),
     (Equal, Low, true),
 ];
