@@ -176,7 +176,7 @@ fn exchange(
     sets.put(alloc, object.number(), to_object)
 }
 
-/// What a party holds once it is labelled: its own element, and what its maker holds besides. One labelled equal holds nothing.
+/// What a party holds once it is labelled: its own element, and what its maker holds besides. One labelled equal, or without an element, holds nothing.
 fn first_set(
     alloc: Global,
     step: Step,

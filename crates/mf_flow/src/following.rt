@@ -44,7 +44,7 @@ impl Flow {
     }
 }
 
-/// The last label text and the last outline, kept so that the next call uses their room again.
+/// The last label text, which isn't read again where the next call has the same, and the last outline, whose room is used again.
 #[derive(Drop)]
 pub struct Workspace {
     last: LastLabel,

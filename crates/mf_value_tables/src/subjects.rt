@@ -15,7 +15,7 @@ fn groups_of_a_credential() -> bool {
     copy.is_root() && in_both && is_copy
 }
 
-/// The credential of root with this saved uid, and with this group alone.
+/// The credential of root with this saved uid, and with this group behind group 0.
 fn with_saved(svuid: u32, group: u32) -> Cred {
     let mut cred = Cred::default();
     cred.svuid = svuid;
@@ -23,7 +23,7 @@ fn with_saved(svuid: u32, group: u32) -> Cred {
     cred
 }
 
-/// Whether credentials differ that do by their saved uids alone, or by their last group.
+/// Whether a copy has the saved uid, and credentials differ that do by their saved uids alone, or by their last group.
 fn credentials_that_differ() -> bool {
     let cred = with_saved(9, 47);
     let is_copied = cred.copy().svuid == 9;

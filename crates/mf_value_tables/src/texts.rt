@@ -2,7 +2,8 @@
 
 use crate::asked::{holds, wants};
 use mf_text::{
-    NumberFault, TextFault, escape, print_number, read_number, read_octal, unescape, unescape_bytes,
+    NumberFault, TextFault, escape, print_number, print_octal, read_number, read_octal, unescape,
+    unescape_bytes,
 };
 use std::alloc::{AllocError, Global};
 
@@ -19,6 +20,13 @@ fn texts_are_appended(alloc: Global) -> Result<bool, AllocError> {
     let mut out = String::from_str(alloc, "text ")?;
     let are_appended = append_both(&mut out);
     Ok(are_appended && out.as_str() == "text a\\20\\5c\\00\\ff4294967295")
+}
+
+/// Appends two numbers in octal digits to no text.
+fn octal_is_appended(alloc: Global) -> bool {
+    let mut out = String::new(alloc);
+    let are_appended = print_octal(0, &mut out).is_ok() && print_octal(4095, &mut out).is_ok();
+    are_appended && out.as_str() == "07777"
 }
 
 fn escapes_of_either_case(alloc: Global) -> bool {
@@ -92,6 +100,7 @@ fn octal_numbers() -> bool {
 #[test]
 fn texts_of_bytes_and_of_numbers(rt: HostRuntime) {
     wants(&rt, "texts", holds(texts_are_appended(rt.alloc())));
+    wants(&rt, "octal digits", octal_is_appended(rt.alloc()));
     wants(&rt, "escapes", escapes_of_either_case(rt.alloc()));
     wants(&rt, "bad escapes", bad_escapes(rt.alloc()));
     wants(&rt, "numbers", numbers_and_their_faults());

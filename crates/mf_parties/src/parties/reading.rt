@@ -131,7 +131,7 @@ impl Parties {
     }
 
     /// The subject of a check: the credential of the caller, with the id and the label of a party, which is the caller itself or
-    /// a socket of its own.
+    /// the socket that it sends from, whoever made that.
     pub fn subject(&self, caller: PartyId, of: PartyId) -> SubjectView
         requires { IsSome (live.live_at self.now of) }
         ensures { result ≡ record {
