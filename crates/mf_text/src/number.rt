@@ -84,8 +84,22 @@ fn value_of(digits: &str, base: u32) -> Option<u32>
     u32::from_str_radix(digits, base).ok()
 }
 
-/// Appends the number in decimal digits, without leading zeros. If memory runs out, `out` is unchanged.
+/// Appends the number in decimal digits, without leading zeros. If memory runs out, `out` is unchanged. Most numbers of a
+/// history have one digit.
+#[inline(always)]
+#[tactic(auto, using(std::proofs::lemmas::Fmt::decimal_digit))]
 pub fn print_number(number: u64, out: &mut String) -> Result<(), AllocError>
+    ensures ok { OnOk result (string_bytes out.new ≡ string_bytes out.old ++ decimal number) }
+    ensures err { OnErr result (string_bytes out.new ≡ string_bytes out.old) }
+{
+    if number < 10 {
+        return out.push(char::from(b'0' + number as u8));
+    }
+    print_digits(number, out)
+}
+
+#[inline(never)]
+fn print_digits(number: u64, out: &mut String) -> Result<(), AllocError>
     ensures ok { OnOk result (string_bytes out.new ≡ string_bytes out.old ++ decimal number) }
     ensures err { OnErr result (string_bytes out.new ≡ string_bytes out.old) }
 {

@@ -1,4 +1,4 @@
-//! Numbers in octal digits.
+//! Printing numbers in octal digits.
 ghost use Rattle.std.specs.Prelude.{◌≡◌, ◌<◌, ◌+◌, [], ◌∷◌, ◌++◌, false, OnOk, OnErr, string_bytes};
 ghost use Rattle.std.specs.Fmt.{digits};
 ghost use Rattle.std.specs.Str.{byte};
