@@ -25,6 +25,7 @@ use mf_policy::Policy;
 use mf_share::{Job, Kernel, Pass, Ticket};
 use std::alloc::{AllocError, Global};
 use std::marker::Brand;
+use std::mem::forget;
 use std::sync::Wait;
 use std::sync::ledger::{Blank, Ledger};
 use std::thread;
@@ -45,7 +46,10 @@ pub fn run_script<P: Policy, G: Gate, R: Threads + Wait + Sync>(
     ensures { IsToldOf telling script.now (bytes_of_outcome result) }
 {
     let tracked = run_core(rt, alloc, script, gate, modules)?;
-    tell(rt, alloc, script, &tracked, telling)
+    let told = tell(rt, alloc, script, &tracked, telling);
+    // The program ends with this text: to let go of the history, reply by reply, would only take time.
+    forget(tracked);
+    told
 }
 
 /// The summary of a run of the generated load of so many lines for each of so many tasks, over these modules.
@@ -64,14 +68,17 @@ pub fn run_load<P: Policy, G: Gate, R: Threads + Wait + Sync>(
     ensures { IsLoaded lines tasks (bytes_of_outcome result) }
 {
     let script = generate(alloc, lines, tasks)?;
-    run_script(
+    let told = run_script(
         rt,
         alloc,
         &script,
         gate,
         modules,
         Telling::Load(lines, tasks),
-    )
+    );
+    // Left as it is, as in `run_script`.
+    forget(script);
+    told
 }
 
 /// The core after each task of the script has run to its end: no entry is open, and all lines are done.

@@ -23,6 +23,9 @@ use mf_matrix::print_matrix;
 use std::alloc::{AllocError, Global};
 use std::thread::Threads;
 
+/// Room for the line of an event, in bytes. Few lines have more, and what isn't written takes no memory of the machine's.
+const ROOM: usize = 24;
+
 /// What is told of a run.
 #[derive(Clone, Copy)]
 pub enum Telling {
@@ -69,7 +72,8 @@ fn whole_text(alloc: Global, script: &Script, tracked: &TrackedCore) -> Result<S
         (λ text. string_bytes text ≡ run_text script.now tracked.now.history) }
 {
     let history = tracked.core().history();
-    let mut text = String::new(alloc);
+    let room = history.events.as_slice().len().saturating_mul(ROOM);
+    let mut text = String::with_capacity(alloc, room)?;
     print_history(script, history, &mut text)?;
     let table = tracked.sources(alloc)?;
     print_sources(&table, &mut text)?;

@@ -22,6 +22,7 @@ use crate::{read, run, write};
 use mf_io::{Gate, Sink, Source};
 use mf_policy::Policy;
 use std::alloc::Global;
+use std::mem::forget;
 use std::sync::Wait;
 use std::thread::Threads;
 
@@ -148,5 +149,8 @@ fn run_source<S: Source, G: Gate, P: Policy, R: Threads + Wait + Sync>(
         (seen S.left S.faults source.old source.new) (bytes_of_outcome result) }
 {
     let script = read::read_source(alloc, source)?;
-    run::run_script(rt, alloc, &script, gate, modules, telling)
+    let told = run::run_script(rt, alloc, &script, gate, modules, telling);
+    // Left as it is, as in `run_script`.
+    forget(script);
+    told
 }
