@@ -7,6 +7,7 @@ use crate::Errno;
 /// The more significant of two answers: EDEADLK, EINVAL, ESRCH, ENOENT, EACCES and EPERM win in this order; of any
 /// other two the newer wins, unless it is success.
 #[tactic(auto, unfolding(crate::specs::OfTwo::select))]
+#[inline(always)]
 pub fn select(newer: Errno, older: Errno) -> Errno
     ensures { result ≡ select newer older }
 {

@@ -62,8 +62,8 @@ fn opened_at(objects: &Objects, caller: Id, access: Access, n: u32) -> Option<&F
     if access.allows(fd) { Some(fd) } else { None }
 }
 
-/// How a call uses a descriptor, and the number of that, where it goes through one. The clause says so of every call by its place, so a
-/// call that is new and goes through one is refused here until it has its line.
+/// How the descriptor that a call goes through has to be open, and its number; None for a call that goes through none. The clause says so
+/// of every call by its place, so a call that is new and goes through one is refused here until it has its line.
 fn access_of(call: &Call) -> Option<(Access, u32)>
     ensures { (s : State) (task : List ℕ) (me : Id) →
         option_and_then (λ used. ways.opened_at s.objects me used.0 used.1) result

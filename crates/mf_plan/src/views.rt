@@ -78,6 +78,7 @@ fn subject_in(objects: &Objects, check: Check) -> SubjectView
 }
 
 /// Whether the view is that of the check's subject. Nothing is copied.
+#[inline(always)]
 fn is_subject(objects: &Objects, check: Check, subject: &SubjectView) -> bool
     requires { outline.IsLiveCheck objects.now check }
     ensures { IsTrue result ↔ (subject.now ≡ outline.subject_in objects.now check) }

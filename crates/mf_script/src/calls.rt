@@ -247,6 +247,7 @@ fn call(alloc: Global, name: &str, words: &mut Words) -> Result<Call, Refusal>
 
 /// The call of that name with its arguments, after which the line must end.
 #[tactic(auto, unfolding(crate::specs::Calls::call_named, crate::specs::Readers::and_then))]
+#[inline(always)]
 pub fn call_named(alloc: Global, name: &str, words: &mut Words) -> Result<Call, Refusal>
     ensures { Gives (λ c. c) result (call_named name.now words.old) }
 {
