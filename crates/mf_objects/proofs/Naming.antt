@@ -1,5 +1,5 @@
 -- Entry names and paths, of the entities and as contracts see them.
-use Rattle.std.proofs.Common.{◌≡◌, ℕ, List, [], ◌∷◌, ◌++◌, Option, Some, None, length, map, reverse, refl, ap, sym, ◌∙◌, Bool, true, false, cond, arith, nat_eq, Result, Ok, Err, OnOk, is_ok, if◌then◌else◌}
+use Rattle.std.proofs.Common.{◌≡◌, ℕ, List, [], ◌∷◌, ◌++◌, Option, Some, None, map, reverse, refl, ap, sym, ◌∙◌, Bool, true, false, cond, nat_eq, Result, Ok, Err, OnOk, is_ok, if◌then◌else◌}
 use Rattle.std.specs.declared.alloc.AllocError.{AllocError}
 use Rattle.std.proofs.lemmas.List.{map-append, reverse-append}
 use Rattle.std.specs.Prelude.{filter, codes}
@@ -90,30 +90,6 @@ path_push ls l id = ap (λ (xs : List LiveEntity). path_in xs id) (reverse-appen
 pub path_nothing : (id : Id) → path_in [] id ≡ []
 unfolding path_in
 path_nothing id = refl
-
-pub path_none : (es : List Entity) (id : Id) → length es ≡ 0 → path_in (reverse (map unlabelled es)) id ≡ []
-path_none [] id none = path_nothing id
-path_none (e ∷ es) id none = absurd (omega arith)
-
-path_last : (es older : List Entity) (e : Entity) (id : Id) → es ≡ older ++ e ∷ []
-    → path_in (reverse (map unlabelled es)) id
-    ≡ cond (nat_eq e.id.0 id.0) (below (path_in (reverse (map unlabelled older))) (parent_of e.what) e.name) (path_in (reverse (map unlabelled older)) id)
-path_last es older e id is =
-    ap (λ (xs : List Entity). path_in (reverse (map unlabelled xs)) id) is
-    ∙ ap (λ (ls : List LiveEntity). path_in (reverse ls) id) (map-append unlabelled older (e ∷ []))
-    ∙ path_push (map unlabelled older) (unlabelled e) id
-
-pub path_other : (es older : List Entity) (e : Entity) (id : Id) → es ≡ older ++ e ∷ [] → nat_eq e.id.0 id.0 ≡ false
-    → path_in (reverse (map unlabelled es)) id ≡ path_in (reverse (map unlabelled older)) id
-path_other es older e id is other = path_last es older e id is ∙ rw other refl
-
-pub path_root : (es older : List Entity) (e : Entity) (id : Id) → es ≡ older ++ e ∷ [] → nat_eq e.id.0 id.0 ≡ true → parent_of e.what ≡ None
-    → path_in (reverse (map unlabelled es)) id ≡ []
-path_root es older e id is this none = path_last es older e id is ∙ rw (this, none) refl
-
-pub path_below : (es older : List Entity) (e : Entity) (id dir : Id) → es ≡ older ++ e ∷ [] → nat_eq e.id.0 id.0 ≡ true → parent_of e.what ≡ Some dir
-    → path_in (reverse (map unlabelled es)) id ≡ path_in (reverse (map unlabelled older)) dir ++ codes "/" ++ e.name
-path_below es older e id dir is this some = path_last es older e id is ∙ rw (this, some) refl
 
 -- a text that grew by `push_str`, where memory was found
 pub pushed : (r : Result (Unit {0}) AllocError) (new old text whole : List ℕ) → new ≡ (if is_ok r then old ++ text else old) → text ≡ whole → OnOk r (new ≡ old ++ whole)

@@ -1,19 +1,25 @@
 -- The path of an entry is that of its directory, a slash and its name; that of the root is nothing.
-use Rattle.std.proofs.Common.{◌≡◌, ℕ, ◌<◌, ◌+◌, List, [], ◌∷◌, ◌++◌, Some, None, Option, reverse, refl, ap, sym, ◌∙◌, subst, arith, nat_eq, Bool, true, false, cond}
+use Rattle.std.proofs.Common.{◌≡◌, ℕ, ◌<◌, ◌≤◌, ◌+◌, List, [], ◌∷◌, ◌++◌, Some, None, Option, reverse, refl, ap, sym, ◌∙◌, subst, arith, nat_eq, nat_lt, Bool, true, false, cond, length, get_or, map, take, drop, position}
 use Rattle.std.specs.Prelude.{All, find, codes, MatchOption}
 use Rattle.std.proofs.lemmas.Bool.Decides.{nat_tests}
-use Rattle.std.proofs.lemmas.List.{append-nil, append_assoc}
-use Rattle.std.proofs.lemmas.List.Elements.{All-nil, All-cons, All-head, All-tail}
+use Rattle.std.specs.List.{position_or_len}
+use Rattle.std.proofs.lemmas.Bool.{eqb-true}
+use Rattle.std.proofs.lemmas.List.{append-nil, append_assoc, map-append, take-append-drop, drop_more, get_or-drop, get_or_default, length-drop}
+use Rattle.std.proofs.lemmas.List.Sums.{fails_before_first}
+use Rattle.std.proofs.lemmas.List.Quantifiers.{position-Some}
+use Rattle.std.proofs.lemmas.List.Elements.{All-nil, All-cons, All-head, All-tail, All-map}
 use Rattle.mf_objects.specs.declared.id.Id.{Id}
+use Rattle.mf_objects.specs.declared.entity.Entity.{Entity}
 use Rattle.mf_objects.specs.declared.entity.EntityData.{EntityData}
 use Rattle.mf_objects.specs.declared.entity.EntityData.TheVariants.{Process, Vnode, Pipe, Socket}
 use Rattle.mf_objects.specs.Live.{LiveEntity, Entities, has_id, live_at}
 use Rattle.mf_objects.specs.Lives.{is_directory}
 use Rattle.mf_objects.specs.Population.{Belongs, HasOlder, HasRoot, IsPopulation, IsRising}
+use Rattle.mf_objects.specs.Sound.{unlabelled, IsById}
 use Rattle.mf_objects.specs.Titles.{parent_of, path_in}
 use Rattle.mf_objects.proofs.Shorthands.{path_at, below}
 use Rattle.mf_objects.proofs.Belonging.{belongs_at}
-use Rattle.mf_objects.proofs.Naming.{path_push}
+use Rattle.mf_objects.proofs.Naming.{path_nothing, path_push}
 
 differs : (a b : ℕ) → a < b → nat_eq b a ≡ false
 differs a b less = grind (arith, nat_tests)
@@ -119,3 +125,51 @@ path_of_root objects id population first = by_live objects.live population.roote
         let none : parent_of r.what ≡ None = no_parent objects.live r.id.0 r.what root.0 (belongs r found) in
         at_entity [] r es id objects.next rising.1 this (omega (arith, first))
         ∙ ap (λ (o : Option Id). below (path_in []) o r.name) none
+
+-- Entities that stand by rising id
+
+abbrev is_at : Id → Entity → Bool
+is_at id e = nat_eq e.id.0 id.0
+
+-- what is read at the place of an id is one entity
+pub one_entity : (es : List Entity) (id : Id) (i : ℕ) (d e : Entity) → position (λ (e : Entity). nat_eq e.id.0 id.0) es ≡ Some i → get_or es i d ≡ get_or es i e
+one_entity es id i d e at = get_or_default es i d e (position-Some (is_at id) es i d at).0
+
+-- the path of the one at a place is told by those before it
+pub path_of_place : (es : List Entity) (id : Id) (i : ℕ) (d : Entity) → IsById es → position (λ (e : Entity). nat_eq e.id.0 id.0) es ≡ Some i
+    → path_in (reverse (map unlabelled es)) id ≡ below (path_in (reverse (map unlabelled (take i es)))) (parent_of (get_or es i d).what) (get_or es i d).name
+path_of_place es id i d by_id at =
+    let found = position-Some (is_at id) es i d at in
+    let e : Entity = get_or es i d in
+    let front : List LiveEntity = map unlabelled (take i es) in
+    let rest : List Entity = drop (i + 1) es in
+    let split : es ≡ take i es ++ e ∷ rest = sym (take-append-drop i es) ∙ ap (λ (xs : List Entity). take i es ++ xs) (drop_more es i d found.0) in
+    ap (λ (xs : List Entity). path_in (reverse (map unlabelled xs)) id) split
+    ∙ ap (λ (ls : List LiveEntity). path_in (reverse ls) id)
+    (map-append unlabelled (take i es) (e ∷ rest) ∙ sym (append_assoc front (unlabelled e ∷ []) (map unlabelled rest)))
+    ∙ skip (front ++ unlabelled e ∷ []) (map unlabelled rest) id (All-map (λ (l : LiveEntity). nat_eq l.id.0 id.0 ≡ false) unlabelled rest later)
+    ∙ path_push front (unlabelled e) id
+    ∙ ap (λ (b : Bool). cond b (below (path_in (reverse front)) (parent_of e.what) e.name) (path_in (reverse front) id)) found.1
+  where
+    later : All (λ (x : Entity). nat_eq x.id.0 id.0 ≡ false) (drop (i + 1) es)
+    later k x l =
+        let here = position-Some (is_at id) es i x at in
+        let same : (get_or es i x).id.0 ≡ id.0 = eqb-true (get_or es i x).id.0 id.0 here.1 in
+        let above : (get_or es i x).id.0 < (get_or es (i + 1 + k) x).id.0 = by_id i (i + 1 + k) x (omega arith) (omega (arith, l, length-drop (i + 1) es)) in
+        rw (get_or-drop (i + 1) es k x) (differs id.0 (get_or es (i + 1 + k) x).id.0 (omega (arith, same, above)))
+
+-- an id that none of them has leads nowhere
+pub path_of_none : (es : List Entity) (id : Id) → position (λ (e : Entity). nat_eq e.id.0 id.0) es ≡ None → path_in (reverse (map unlabelled es)) id ≡ []
+path_of_none es id none =
+    skip [] (map unlabelled es) id (All-map (λ (l : LiveEntity). nat_eq l.id.0 id.0 ≡ false) unlabelled es (λ k x l. fails_before_first (is_at id) es k x (omega (arith, l, end)))) ∙ path_nothing id
+  where
+    over : (n m : ℕ) (b : Bool) → nat_lt n m ≡ b → cond b (Some n) None ≡ None → m ≤ n
+    over n m true less is = cc is
+    over n m false less is = grind (arith, nat_tests)
+
+    end : length es ≤ position_or_len (is_at id) es
+    end = over (position_or_len (is_at id) es) (length es) (nat_lt (position_or_len (is_at id) es) (length es)) refl none
+
+-- nothing was appended
+pub path_unsaid : (out path : List ℕ) → path ≡ [] → out ≡ out ++ path
+path_unsaid out path none = sym (append-nil out) ∙ ap (λ (bytes : List ℕ). out ++ bytes) (sym none)

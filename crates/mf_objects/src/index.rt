@@ -159,7 +159,7 @@ impl NameIndex {
     pub fn new(alloc: Global) -> Result<NameIndex, AllocError>
         ensures { IfOk result (λ index. index ≡ replicate BUCKETS []) }
     {
-        let mut buckets = Vec::new(alloc);
+        let mut buckets = Vec::with_capacity(alloc, BUCKETS as usize)?;
         for _ in 0..BUCKETS {
             buckets.push(Bucket::new(alloc))?;
         }

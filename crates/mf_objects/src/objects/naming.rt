@@ -4,9 +4,9 @@ ghost use Rattle.mf_objects.specs.Live as live;
 ghost use Rattle.mf_objects.specs.Lives.{is_directory, IsLive};
 ghost use Rattle.mf_objects.specs.Titles as title;
 ghost use Rattle.mf_objects.specs.Names.{IsFirstNames, IsAppended, prefix_of, own_name};
-ghost use Rattle.mf_objects.specs.Sound.{unlabelled};
+ghost use Rattle.mf_objects.specs.Sound.{unlabelled, IsById};
 
-use super::Objects;
+use super::{Objects, place_of};
 use crate::entity::{Entity, EntityData};
 use crate::id::Id;
 use crate::limits::MOST_NAMES;
@@ -58,7 +58,7 @@ fn entry_names<'a>(
         (λ names. map (λ name. name.now) names.items
         ≡ map (λ e. e.name) (filter (λ e. live.is_entry dir e.what) entities.now)) }
 {
-    let mut names = Vec::new(alloc);
+    let mut names = Vec::with_capacity(alloc, MOST_NAMES)?;
     for entity in entities {
         if entity.is_entry(dir) {
             names.push(entity.name.as_str())?;
@@ -71,7 +71,7 @@ fn entry_names<'a>(
 fn listed(alloc: Global, names: &[&str]) -> Result<NameList, AllocError>
     ensures { IfOk result (λ list. list ≡ map (λ name. name.now) names.now) }
 {
-    let mut list = NameList::new(alloc);
+    let mut list = NameList::with_room(alloc, names.len())?;
     for name in names {
         list.push(Name::from_str(alloc, name)?)?;
     }
@@ -97,6 +97,7 @@ fn push_own_name(
     id: Id,
     out: &mut String,
 ) -> Result<(), AllocError>
+    requires { IsById entities.now }
     ensures ok { OnOk result (string_bytes out.new
         ≡ string_bytes out.old
         ++ own_name (title.path_in (reverse (map unlabelled entities.now)) id)
@@ -113,6 +114,7 @@ fn push_own_name(
 
 /// Appends the path of an id, a slash for the root.
 fn push_rooted_path(entities: &[Entity], id: Id, out: &mut String) -> Result<(), AllocError>
+    requires { IsById entities.now }
     ensures ok { OnOk result (string_bytes out.new
         ≡ string_bytes out.old
         ++ title.rooted_path (title.path_in (reverse (map unlabelled entities.now)) id)) }
@@ -126,22 +128,23 @@ fn push_rooted_path(entities: &[Entity], id: Id, out: &mut String) -> Result<(),
     Ok(())
 }
 
-/// Appends the path of an id, walking from the newest entity to its directory.
+/// Appends the path of an id, which has its directory among the entities before its own.
 fn push_path(entities: &[Entity], id: Id, out: &mut String) -> Result<(), AllocError>
+    requires { IsById entities.now }
     ensures ok { OnOk result (string_bytes out.new
         ≡ string_bytes out.old ++ title.path_in (reverse (map unlabelled entities.now)) id) }
     ensures err { OnErr result (IsAppended (string_bytes out.old) (string_bytes out.new)) }
 {
-    match entities.split_last() {
+    let place = match place_of(entities, id) {
+        None => return Ok(()),
+        Some(place) => place,
+    };
+    match entities[place].what.parent() {
         None => Ok(()),
-        Some((entity, older)) if entity.has_id(id) => match entity.what.parent() {
-            None => Ok(()),
-            Some(dir) => {
-                push_path(older, dir, out)?;
-                push_component(entity.name.as_str(), out)
-            }
-        },
-        Some((_, older)) => push_path(older, id, out),
+        Some(dir) => {
+            push_path(&entities[..place], dir, out)?;
+            push_component(entities[place].name.as_str(), out)
+        }
     }
 }
 

@@ -1,12 +1,18 @@
-use Rattle.std.proofs.Common.{◌≡◌, ◌++◌, ℕ, List, ap, sym, ◌∙◌, map, reverse, string_bytes, Option, append_assoc}
+use Rattle.std.proofs.Common.{◌≡◌, ◌++◌, ℕ, List, ap, sym, ◌∙◌, map, reverse, string_bytes, Option, append_assoc, subst}
 use Rattle.mf_objects.specs.declared.entity.Entity.{Entity}
 use Rattle.mf_objects.specs.Live.{LiveEntity, Entities}
 use Rattle.mf_objects.specs.Names.{prefix_of, own_name}
 use Rattle.mf_objects.specs.Titles.{path_in}
 use Rattle.mf_objects.proofs.Shorthands.{path_at}
-use Rattle.mf_objects.specs.Sound.{unlabelled}
+use Rattle.mf_objects.specs.Sound.{unlabelled, IsById}
+use Rattle.mf_objects.proofs.ById.{stand_by_id}
 use Rattle.mf_objects.proofs.Naming.{path_live, title_in, title_parts}
 use Rattle.mf_objects.proofs.objects.Objects.title.Goals as goal
+
+pub push_own_name-requires : goal.push_own_name-requires
+push_own_name-requires c =
+    subst (λ (xs : List Entity). IsById xs) (sym c.deref.ensures.value)
+    (stand_by_id c.self.inside.zones 0 c.self.inside.next c.self.inside.entities.items c.self.invariant.0.population.rising)
 
 pub returns-in-Ok-clause-ok : goal.returns-in-Ok-clause-ok
 returns-in-Ok-clause-ok c =
