@@ -75,6 +75,17 @@ impl Objects {
         })
     }
 
+    /// Makes room for so many entities more, each with a value in the slots where the root has one.
+    pub fn reserve(&mut self, more: usize) -> Result<(), AllocError>
+        ensures { self.new ≡ self.old }
+    {
+        self.entities.reserve(more)?;
+        match self.entities.first() {
+            None => Ok(()),
+            Some(root) => self.zones.reserve(&root.label, more),
+        }
+    }
+
     /// Makes a process with this credential, which has nothing open.
     pub fn add_process(
         &mut self,

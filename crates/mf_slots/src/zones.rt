@@ -98,6 +98,17 @@ impl Zones {
         Ok(())
     }
 
+    /// Makes room for so many values more in the zone of each slot that the label has made.
+    pub fn reserve(&mut self, label: &Label, more: usize) -> Result<(), AllocError>
+        ensures { self.new ≡ self.old }
+    {
+        for slot in 0..SLOTS {
+            let zone = &mut self.zones[slot];
+            reserve_where(zone, label.handles[slot], more)?;
+        }
+        Ok(())
+    }
+
     /// Makes a label with these values; a slot that is to be Unset isn't made. If memory runs out, nothing is changed.
     pub fn make_label(&mut self, values: &[LabelValue; SLOTS]) -> Result<Label, AllocError>
         ensures ok { IfOk result (λ label. MakesLabel self.old self.new label values.now) }
@@ -203,7 +214,7 @@ impl Zones {
         }
     }
 
-    /// Fills `value` with what the zone of a slot has under the key, with Unset where there is no key.
+    /// Fills `value` with what the zone of a slot has under the key, with Unset where it has nothing or there is no key.
     fn fill_under(&self, slot: usize, key: Option<usize>, value: &mut LabelValue)
         requires { slot < SLOTS }
         ensures { value_under self.now slot key ≡ value.new }
@@ -251,6 +262,20 @@ impl Zones {
             let zone = &mut self.zones[slot];
             let _ = zone.try_remove(key);
         }
+    }
+}
+
+/// Makes room for so many values more, where there is a key.
+fn reserve_where(
+    zone: &mut Slab<LabelValue>,
+    key: Option<usize>,
+    more: usize,
+) -> Result<(), AllocError>
+    ensures { zone.new.slots ≡ zone.old.slots }
+{
+    match key {
+        None => Ok(()),
+        Some(_) => zone.reserve(more),
     }
 }
 
