@@ -50,12 +50,12 @@ pub fn accepts(
 }
 
 /// The registration of the module among these.
-fn policy_of(booted: &[Registration], module: Module) -> Option<&Registration>
-    ensures { option_copied result ≡ find (λ r. same_module «module» r.module) booted.now }
+fn policy_of(booted: &[Registration], wanted: Module) -> Option<&Registration>
+    ensures { option_copied result ≡ find (λ r. same_module wanted r.module) booted.now }
 {
     booted
         .iter()
-        .find(|registration| module.is(registration.module))
+        .find(|registration| wanted.is(registration.module))
 }
 
 /// Whether the entity lives.

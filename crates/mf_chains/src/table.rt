@@ -149,13 +149,13 @@ fn push_chains(
     }
 }
 
-fn keeper_of(keepers: &[Keeper], module: Module) -> Option<&Keeper>
+fn keeper_of(keepers: &[Keeper], wanted: Module) -> Option<&Keeper>
     ensures { option_copied result
-        ≡ find (λ k. same_module «module» k.registration.module) keepers.now }
+        ≡ find (λ k. same_module wanted k.registration.module) keepers.now }
 {
     keepers
         .iter()
-        .find(|keeper| module.is(keeper.registration.module))
+        .find(|keeper| wanted.is(keeper.registration.module))
 }
 
 fn push_kept(

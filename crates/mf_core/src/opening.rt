@@ -7,14 +7,17 @@ ghost use Rattle.mf_calls.specs.WellFormed.{IsWellFormed};
 ghost use Rattle.mf_core.specs.declared.limits.TheConstants.{MOST_AT_OPENING};
 ghost use Rattle.mf_core.specs.Opening as spec;
 ghost use Rattle.mf_core.specs.Registering.{HasAtMost};
+ghost use Rattle.mf_elem.specs.declared.label.TheConstants.{SLOTS};
+ghost use Rattle.mf_policy.specs.declared.labels.Origin.TheVariants.{Boot};
+ghost use Rattle.mf_policy.specs.NewLabels.{new_label, new_value};
 
 use mf_calls::{FileLine, Script, Task};
-use mf_elem::Request;
+use mf_elem::{LabelValue, Request, SLOTS};
 use mf_item::Kind;
 use mf_objects::Objects;
 use mf_perform::last_name;
 use mf_plan::{Target, target_of};
-use mf_policy::{Origin, SpecList, new_label};
+use mf_policy::{SpecList, boot_value};
 use std::alloc::{AllocError, Global};
 
 /// The root, then the files, then the processes of the tasks, where these policies are listed.
@@ -27,8 +30,9 @@ pub fn opening_objects(
     ensures value { IfOk result (λ objects. objects ≡ spec.opening_objects listed.now script.now) }
     ensures few { IfOk result (λ objects. HasAtMost objects MOST_AT_OPENING) }
 {
-    let root = new_label(listed, Kind::Vnode, &Origin::Boot(Request::none()));
+    let root = boot_label(listed, Kind::Vnode, &Request::none());
     let mut objects = Objects::new(alloc, &root)?;
+    objects.reserve(script.files.len().saturating_add(script.tasks.len()))?;
     add_files(alloc, &mut objects, script, listed)?;
     add_tasks(alloc, &mut objects, script, listed)?;
     Ok(objects)
@@ -69,7 +73,7 @@ fn add_file(
     match target_of(objects, &file.path) {
         Target::Name(dir, None) => {
             let name = last_name(&file.path);
-            let label = new_label(listed, Kind::Vnode, &Origin::Boot(file.label));
+            let label = boot_label(listed, Kind::Vnode, &file.label);
             let text = file.text.as_slice();
             objects.add_vnode(alloc, dir, name, &file.file, text, &label)?;
             Ok(())
@@ -112,9 +116,32 @@ fn add_task(
     match objects.process(name) {
         Some(_) => Ok(()),
         None => {
-            let label = new_label(listed, Kind::Process, &Origin::Boot(task.label));
+            let label = boot_label(listed, Kind::Process, &task.label);
             objects.add_process(alloc, name, &task.cred, &label)?;
             Ok(())
         }
+    }
+}
+
+/// The label of an entity of that kind at boot, for which the script asks this. The request is wide, and isn't copied.
+fn boot_label(listed: &SpecList, kind: Kind, request: &Request) -> [LabelValue; SLOTS]
+    ensures { result ≡ new_label listed.now kind (Boot request.now) }
+{
+    [
+        first_value(listed, kind, request, 0),
+        first_value(listed, kind, request, 1),
+        first_value(listed, kind, request, 2),
+        first_value(listed, kind, request, 3),
+    ]
+}
+
+/// The value in a slot at boot.
+fn first_value(listed: &SpecList, kind: Kind, request: &Request, slot: u8) -> LabelValue
+    requires { slot < SLOTS }
+    ensures { result ≡ new_value listed.now kind (Boot request.now) slot }
+{
+    match listed.holder(slot) {
+        None => LabelValue::Unset,
+        Some(module) => boot_value(module, kind, request),
     }
 }

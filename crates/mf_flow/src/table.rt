@@ -37,6 +37,9 @@ pub struct Row {
     pub elements: ElemSet,
 }
 
+/// How many bytes most titles have at most.
+const TITLE_ROOM: usize = 24;
+
 /// Rows for mac_biba where it was booted, then for mac_mls, and then for mac_lomac, of the live entities by rising id.
 pub type Table = Listing<Row>;
 
@@ -89,26 +92,26 @@ pub fn sourced(alloc: Global, boots: &BootList) -> Result<Vec<Registration>, All
 /// Appends the registration of the module at boot, where it was booted.
 fn push_booted(
     boots: &BootList,
-    module: Module,
+    wanted: Module,
     booted: &mut Vec<Registration>,
 ) -> Result<(), AllocError>
     ensures { OnOk result (booted.new.items ≡ booted.old.items ++ cons_option
-        (find (λ r. same_module «module» r.module) boots.now) []) }
+        (find (λ r. same_module wanted r.module) boots.now) []) }
 {
-    if let Some(registration) = booted_as(boots, module) {
+    if let Some(registration) = booted_as(boots, wanted) {
         booted.push(*registration)?;
     }
     Ok(())
 }
 
 /// The registration of the module at boot.
-fn booted_as(boots: &BootList, module: Module) -> Option<&Registration>
-    ensures { option_copied result ≡ find (λ r. same_module «module» r.module) boots.now }
+fn booted_as(boots: &BootList, wanted: Module) -> Option<&Registration>
+    ensures { option_copied result ≡ find (λ r. same_module wanted r.module) boots.now }
 {
     boots
         .as_slice()
         .iter()
-        .find(|registration| module.is(registration.module))
+        .find(|registration| wanted.is(registration.module))
 }
 
 /// What the history makes of a run and of the sources by each of these policies, which are those of the opening.
@@ -170,7 +173,8 @@ pub(crate) fn list_flows(
         → IfOk result
         (λ table. table ≡ flat_map (λ flow. spec.rows_for s h flow.registration) flows.now) }
 {
-    let mut table = Listing::new(alloc);
+    let room = flows.len().saturating_mul(objects.live() as usize);
+    let mut table = Listing::with_room(alloc, room)?;
     for flow in flows {
         let module = flow.registration.module;
         list_rows(alloc, module, objects, &flow.sets, &mut table)?;
@@ -230,9 +234,9 @@ fn sources_row(
           elements = set_at sets.now id.0;
         }) }
 {
-    let mut text = String::new(alloc);
+    let mut text = String::with_capacity(alloc, TITLE_ROOM)?;
     objects.title(id, &mut text)?;
-    let title = Name::from_str(alloc, text.as_str())?;
+    let title = Name::from_string(text);
     let elements = sets.copy_of(alloc, id.number())?;
     Ok(Row {
         module,
