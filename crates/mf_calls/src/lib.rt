@@ -21,6 +21,6 @@ pub use mf_names::{
     SCRIPT_LIMIT, Word,
 };
 pub use names::{is_component, is_name};
-pub use paths::{directory_of, is_same_path};
+pub use paths::{are_same_paths, directory_of, is_same_path};
 pub use script::{Call, FileLine, Line, Script, Step, StepKind, Task};
 pub use tunable::revocation_name;

@@ -13,6 +13,13 @@ pub fn is_same_path(path: &Components<'_>, other: &Components<'_>) -> bool
     path.is_same(other)
 }
 
+/// The same of paths that are whole, for which it is cheaper.
+pub fn are_same_paths(path: &Path, other: &Path) -> bool
+    ensures { result ≡ pointwise bytes_eq path.now other.now }
+{
+    path.is_same(other)
+}
+
 /// The path of the directory that the path stands in. Of the root it is the root.
 pub fn directory_of(path: &Path) -> Components<'_>
     ensures { result ≡ directory_of path.now }

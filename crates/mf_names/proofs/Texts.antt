@@ -59,3 +59,24 @@ texts_decide text other result eq = (
   λ e. ap (slice_split is_slash) ((bytes_eq-Decides text other).0 (sym eq ∙ e)),
   λ e. eq ∙ (bytes_eq-Decides text other).1 (same_text text other e),
 )
+
+-- Two paths
+
+same_path_text : (text other : List ℕ) → BeginsWithSlash text → BeginsWithSlash other → components_in text ≡ components_in other → text ≡ other
+same_path_text [] [] begins other_begins e = refl
+same_path_text [] (c ∷ other) begins other_begins e = absurd (omega (arith, ap length e, some_parts other))
+same_path_text (b ∷ text) [] begins other_begins e = absurd (omega (arith, ap length e, some_parts text))
+same_path_text (b ∷ text) (c ∷ other) begins other_begins e =
+    ap (λ (b : ℕ). b ∷ text) (begins ∙ sym other_begins) ∙ ap (λ (text : List ℕ). c ∷ text) (same_text text other e)
+
+pub paths_decide : (text other : List ℕ) (result : Bool) → BeginsWithSlash text → BeginsWithSlash other → result ≡ bytes_eq text other
+    → Decides result (components_in text ≡ components_in other)
+paths_decide text other result begins other_begins eq = (
+  λ e. ap components_in ((bytes_eq-Decides text other).0 (sym eq ∙ e)),
+  λ e. eq ∙ (bytes_eq-Decides text other).1 (same_path_text text other begins other_begins e),
+)
+
+-- what excludes that the texts are the same excludes that the paths are
+pub texts_differ : (text other : List ℕ) (may : Bool) → BeginsWithSlash text → BeginsWithSlash other → (text ≡ other → may ≡ true) → may ≡ false
+    → Decides may (components_in text ≡ components_in other)
+texts_differ text other may begins other_begins must not = (λ e. cc, λ e. must (same_path_text text other begins other_begins e))

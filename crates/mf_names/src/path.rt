@@ -1,7 +1,7 @@
 //! Paths.
-ghost use Rattle.std.specs.Prelude.{◌≡◌, ◌≢◌, ◌≤◌, ◌<◌, [], ◌∷◌, ◌++◌, length, IfOk, OnOk, OnErr, MatchOption, ◌==◌};
+ghost use Rattle.std.specs.Prelude.{◌≡◌, ◌≢◌, ◌≤◌, ◌<◌, [], ◌∷◌, ◌++◌, length, IfOk, OnOk, OnErr, MatchOption, IsTrue, ◌==◌};
 ghost use Rattle.std.specs.Bool.{Decides};
-ghost use Rattle.mf_names.specs.Paths.{HasNoSlash};
+ghost use Rattle.mf_names.specs.Paths.{HasNoSlash, IsPathText, components_in};
 
 use crate::PATH_LIMIT;
 use std::alloc::{AllocError, Global};
@@ -36,11 +36,12 @@ impl Path {
         }
     }
 
-    /// The path of the root directory, with room for a text of that many bytes.
-    pub fn with_room(alloc: Global, bytes: usize) -> Result<Path, AllocError>
-        ensures { IfOk result (λ path. path ≡ []) }
+    /// The path with this text.
+    pub fn from_str(alloc: Global, text: &str) -> Result<Path, AllocError>
+        requires { IsPathText text.now }
+        ensures { IfOk result (λ path. path ≡ components_in text.now) }
     {
-        let text = String::with_capacity(alloc, bytes)?;
+        let text = String::from_str(alloc, text)?;
         Ok(Path { text })
     }
 
@@ -67,17 +68,20 @@ impl Path {
         }
     }
 
-    /// The number of components.
-    pub fn depth(&self) -> usize
-        ensures { result ≡ length self.now }
+    /// Whether the two have the same components.
+    pub fn is_same(&self, other: &Path) -> bool
+        ensures { Decides result (self.now ≡ other.now) }
     {
-        let mut rest = self.components();
-        let mut count = 0;
-        while rest.next().is_some() {
-            count += 1;
-        }
-        count
+        may_be_same(self.text.as_bytes(), other.text.as_bytes())
+            && self.text.as_str() == other.text.as_str()
     }
+}
+
+/// Whether the lengths and the last bytes are the same: most paths that are compared differ in one of them.
+fn may_be_same(text: &[u8], other: &[u8]) -> bool
+    ensures { text.now ≡ other.now → IsTrue result }
+{
+    text.len() == other.len() && text.last() == other.last()
 }
 
 /// The components of a path that are left. Contracts see their list.

@@ -12,9 +12,9 @@ use crate::error::ScriptFault;
 use crate::lines::{FileWords, TaskWords};
 use crate::refusal::{Refusal, boot_refused, faulty};
 use mf_calls::{
-    BOOT_LIMIT, Bytes, CONTENT_LIMIT, Call, Components, FILE_LIMIT, FileLine, Listing, Name,
-    RULE_LIST_LIMIT, TASK_LIMIT, Task, directory_of, is_booted, is_same_path, may_ask_for,
-    revocation_name,
+    BOOT_LIMIT, Bytes, CONTENT_LIMIT, Call, Components, FILE_LIMIT, FileLine, Listing, Name, Path,
+    RULE_LIST_LIMIT, TASK_LIMIT, Task, are_same_paths, directory_of, is_booted, is_same_path,
+    may_ask_for, revocation_name,
 };
 use mf_elem::Request;
 use mf_errno::{Errno, Module};
@@ -97,12 +97,10 @@ fn request_for(kind: Kind, boots: &[Module], word: &str) -> Result<Request, Refu
     }
 }
 
-fn has_path(files: &[FileLine], path: &Components<'_>) -> bool
+fn has_path(files: &[FileLine], path: &Path) -> bool
     ensures { result ≡ list_any (has_path path.now) files.now }
 {
-    files
-        .iter()
-        .any(|file| is_same_path(&file.path.components(), path))
+    files.iter().any(|file| are_same_paths(&file.path, path))
 }
 
 fn is_directory_at(file: &FileLine, path: &Components<'_>) -> bool
@@ -133,8 +131,7 @@ fn file_label(boots: &[Module], files: &[FileLine], words: &FileWords) -> Result
     if files.len() >= FILE_LIMIT || words.text.as_slice().len() > CONTENT_LIMIT {
         return Err(faulty(ScriptFault::TooMany));
     }
-    let components = words.path.components();
-    if components.is_empty() || has_path(files, &components) {
+    if words.path.components().is_empty() || has_path(files, &words.path) {
         return Err(faulty(ScriptFault::Duplicate));
     }
     if !has_directory(files, &directory_of(&words.path)) {

@@ -2,12 +2,13 @@
 #![tactic(auto, unfolding(crate::specs::Readers::and_then))]
 
 ghost use Rattle.std.specs.Str.{byte};
-ghost use Rattle.std.specs.Prelude.{◌≡◌, ◌≢◌, ◌<◌, ◌≤◌, ◌+◌, [], ◌∷◌, length, MatchOption, OnOk, List, ℕ};
+ghost use Rattle.std.specs.Prelude.{◌≡◌, ◌≢◌, ◌&&◌, ◌<◌, nat_le, ◌∷◌, length, MatchOption, List, ℕ};
+ghost use Rattle.std.specs.List.{list_all};
 ghost use Rattle.mf_names.specs.declared.limits.TheConstants.{PATH_LIMIT};
 ghost use Rattle.mf_labeltext.specs.Reading.{parts};
-ghost use Rattle.mf_calls.specs.Names.{is_process_name};
+ghost use Rattle.mf_calls.specs.Names.{is_process_name, is_component};
 ghost use Rattle.mf_script.specs.Gives.{Gives};
-ghost use Rattle.mf_script.specs.Parts.{word_by, simple_name_of, process_of, all_added, with_component, components_of, behind_root, path_of};
+ghost use Rattle.mf_script.specs.Parts.{word_by, simple_name_of, process_of, components_of, behind_root, path_of};
 
 use crate::Words;
 use crate::error::ScriptFault;
@@ -80,57 +81,46 @@ pub fn process(alloc: Global, words: &mut Words) -> Result<Name, Refusal>
     }
 }
 
-#[tactic(auto, unfolding(crate::specs::Parts::with_component, crate::specs::Readers::and_then))]
-fn add_component(path: &mut Path, depth: usize, word: &str) -> Result<(), Refusal>
-    requires { depth ≡ length path.old }
-    ensures read { Gives (λ u. path.new) result (with_component path.old word.now) }
-    ensures deeper { OnOk result ((length path.new ≡ depth + 1) × (depth < PATH_LIMIT)) }
-{
-    if depth >= PATH_LIMIT || !is_component(word) {
-        return Err(faulty(ScriptFault::BadPath));
-    }
-    path.push(word)?;
-    Ok(())
-}
-
-/// Adds the components of the word to the path of the root directory. They are counted on the way, so that the path isn't gone
-/// through for each.
-fn add_components(path: &mut Path, word: &str) -> Result<(), Refusal>
-    requires { path.old ≡ [] }
-    ensures { Gives (λ u. path.new) result
-        (all_added with_component path.old (parts (byte "/") word.now)) }
+/// Whether these are components with a slash between each two, and not too many.
+fn are_components(word: &str) -> bool
+    ensures { result ≡ (nat_le (length (parts (byte "/") word.now)) PATH_LIMIT
+        && list_all is_component (parts (byte "/") word.now)) }
 {
     let mut rest = word;
-    let mut depth = 0;
+    let mut depth = 1;
     while let Some((component, after)) = split_at(rest, '/') {
-        match add_component(path, depth, component) {
-            Err(error) => return Err(error),
-            Ok(()) => rest = after,
+        if depth >= PATH_LIMIT || !is_component(component) {
+            return false;
         }
+        rest = after;
         depth += 1;
     }
-    add_component(path, depth, rest)
+    is_component(rest)
 }
 
-#[tactic(auto, unfolding(crate::specs::Parts::components_of))]
-fn components_of(alloc: Global, word: &str) -> Result<Path, Refusal>
-    ensures { Gives (λ path. path) result (components_of word.now) }
+/// The path that the word spells, whose text after its first slash this is. The word is copied whole, since it is what a path is
+/// kept as.
+fn components_of(alloc: Global, word: &str, behind: &str) -> Result<Path, Refusal>
+    requires { word.now ≡ byte "/" ∷ behind.now }
+    ensures { Gives (λ path. path) result (components_of behind.now) }
 {
-    // Room for just these: what is read is kept to the end of a run.
-    let mut path = Path::with_room(alloc, word.len() + 1)?;
-    add_components(&mut path, word)?;
+    if !are_components(behind) {
+        return Err(faulty(ScriptFault::BadPath));
+    }
+    let path = Path::from_str(alloc, word)?;
     Ok(path)
 }
 
-/// The path whose text after its first slash this is.
+/// The same, where nothing may stand after the slash.
 #[tactic(auto, unfolding(crate::specs::Parts::behind_root))]
-fn behind_root(alloc: Global, word: &str) -> Result<Path, Refusal>
-    ensures { Gives (λ path. path) result (behind_root word.now) }
+fn behind_root(alloc: Global, word: &str, behind: &str) -> Result<Path, Refusal>
+    requires { word.now ≡ byte "/" ∷ behind.now }
+    ensures { Gives (λ path. path) result (behind_root behind.now) }
 {
-    if word.is_empty() {
+    if behind.is_empty() {
         Ok(Path::root(alloc))
     } else {
-        components_of(alloc, word)
+        components_of(alloc, word, behind)
     }
 }
 
@@ -140,8 +130,8 @@ fn path_of(alloc: Global, word: &str) -> Result<Path, Refusal>
 {
     match behind(word, '/') {
         None => Err(faulty(ScriptFault::BadPath)),
-        Some(word) => {
-            let path = behind_root(alloc, word)?;
+        Some(behind) => {
+            let path = behind_root(alloc, word, behind)?;
             Ok(path)
         }
     }

@@ -1,7 +1,7 @@
 //! Small scripts, and what is read of them.
 
 use mf_calls::{FileLine, Line, Script, Task};
-use mf_names::SCRIPT_LIMIT;
+use mf_names::{Path, SCRIPT_LIMIT};
 use mf_script::{Call, ScriptError, Step, StepKind, generate, read_script};
 use std::alloc::{AllocError, Global};
 use std::process::Abort;
@@ -117,11 +117,22 @@ fwrite 15 x\\20
 end
 ";
 
+/// Whether the path has as many components.
+fn has_depth(path: &Path, depth: usize) -> bool {
+    let mut rest = path.components();
+    for _ in 0..depth {
+        if rest.next().is_none() {
+            return false;
+        }
+    }
+    rest.is_empty()
+}
+
 fn is_the_mail(files: &[FileLine]) -> bool {
     let [directory, mail] = files else {
         return false;
     };
-    let is_inside = directory.file.dir && mail.path.depth() == 2;
+    let is_inside = directory.file.dir && has_depth(&mail.path, 2);
     is_inside && mail.file.mode == 0o644 && mail.text.as_slice() == b"a\n#".as_slice()
 }
 
@@ -198,7 +209,7 @@ fn bind_two(lines: &[Line]) -> bool {
 fn opens(line: &Line, read: bool, write: bool) -> bool {
     match &line.call {
         Call::OpenFd(path, reads, writes) => {
-            path.depth() == 1 && *reads == read && *writes == write
+            has_depth(path, 1) && *reads == read && *writes == write
         }
         _ => false,
     }

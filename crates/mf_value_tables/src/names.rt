@@ -86,7 +86,7 @@ fn is_next(components: &mut Components<'_>, wanted: Option<&str>) -> bool {
 fn is_motd(path: &Path) -> bool {
     let mut components = path.components();
     let is_named = is_next(&mut components, Some("etc")) && is_next(&mut components, Some("motd"));
-    is_named && is_next(&mut components, None) && path.depth() == 2
+    is_named && is_next(&mut components, None)
 }
 
 /// Whether the components are those of the directory, and motd.
@@ -100,7 +100,8 @@ fn ends_in_motd(components: &Components<'_>, directory: &Components<'_>) -> bool
 /// Whether the path ends in motd, and begins with the directory, which is none of its own.
 fn ends_in(path: &Path, directory: &Path) -> bool {
     let (components, of_directory) = (path.components(), directory.components());
-    !components.is_same(&of_directory) && ends_in_motd(&components, &of_directory)
+    let is_other = !components.is_same(&of_directory) && !path.is_same(directory);
+    is_other && path.is_same(path) && ends_in_motd(&components, &of_directory)
 }
 
 /// Whether the path is /etc/motd once it has grown, and ends in its directory, which is the root at first.
@@ -114,10 +115,7 @@ fn grows(path: &mut Path, directory: &mut Path) -> bool
 }
 
 fn a_path_ends_in_its_directory(alloc: Global) -> bool {
-    match Path::with_room(alloc, 4) {
-        Ok(mut directory) => grows(&mut Path::root(alloc), &mut directory),
-        Err(AllocError) => false,
-    }
+    grows(&mut Path::root(alloc), &mut Path::root(alloc))
 }
 
 #[test]
