@@ -1,7 +1,7 @@
 //! The reader of a script, line by line.
-ghost use Rattle.std.specs.Prelude.{◌≡◌, ◌≤◌, length, IfOk, IsTrue};
+ghost use Rattle.std.specs.Prelude.{◌≡◌, ◌≤◌, ◌==◌, ◌||◌, length, IfOk, IsTrue};
 ghost use Rattle.std.specs.List.{list_all};
-ghost use Rattle.std.specs.Str.{IsAscii};
+ghost use Rattle.std.specs.Str.{IsAscii, byte};
 ghost use Rattle.mf_names.specs.declared.limits.TheConstants.{SCRIPT_LIMIT};
 ghost use Rattle.mf_calls.specs.WellFormed.{IsWellFormed};
 ghost use Rattle.mf_script.specs.Gives.{Gives};
@@ -32,9 +32,10 @@ pub fn read_script(alloc: Global, bytes: &[u8]) -> Result<Script, ScriptError>
     };
     let mut place = Place::Boots;
     let mut number = 1;
+    let plain = is_plain_text(bytes);
     let mut lines = Lines::of(bytes);
     while let Some(line) = lines.next() {
-        match take_line(alloc, &mut script, &mut place, line) {
+        match take_line(alloc, &mut script, &mut place, plain, line) {
             Ok(()) => number += 1,
             Err(refusal) => return Err(at_line(number, refusal)),
         }
@@ -70,22 +71,33 @@ fn ended(script: Script, place: Place, number: u32) -> Result<Script, ScriptErro
     }
 }
 
-/// Takes a line at this place, and goes on to the place of the next line.
+/// Takes a line at this place, and goes on to the place of the next line; `plain` where it is known that each byte may stand in a line.
 #[tactic(auto, unfolding(crate::specs::Grammar::line_read, crate::specs::Readers::and_then))]
 fn take_line(
     alloc: Global,
     script: &mut Script,
     place: &mut Place,
+    plain: bool,
     line: &[u8],
 ) -> Result<(), Refusal>
-    requires { length line.now ≤ SCRIPT_LIMIT }
+    requires known { IsTrue plain → IsTrue (list_all is_line_byte line.now) }
+    requires most { length line.now ≤ SCRIPT_LIMIT }
     ensures { Gives (λ u. (script.new, place.new)) result
         (line_read script.old place.old line.now) }
 {
-    if !are_plain(line) {
+    if !is_plain_line(plain, line) {
         return Err(faulty(ScriptFault::NotText));
     }
     words_line(alloc, script, place, &mut Words::of(line))
+}
+
+/// Whether each byte may stand in a line, which may be known.
+fn is_plain_line(known: bool, line: &[u8]) -> bool
+    requires { IsTrue known → IsTrue (list_all is_line_byte line.now) }
+    ensures plain { result ≡ list_all is_line_byte line.now }
+    ensures ascii { IsTrue result → IsAscii line.now }
+{
+    known || are_plain(line)
 }
 
 fn is_line_byte(byte: u8) -> bool
@@ -99,4 +111,15 @@ fn are_plain(line: &[u8]) -> bool
     ensures ascii { IsTrue result → IsAscii line.now }
 {
     line.iter().all(|byte| is_line_byte(*byte))
+}
+
+/// Whether each byte may stand in a line or ends one. Each is looked at, whatever the others are: so many are at once.
+fn is_plain_text(text: &[u8]) -> bool
+    ensures { result ≡ list_all (λ b. b == byte "\n" || is_line_byte b) text.now }
+{
+    let mut plain = true;
+    for byte in text {
+        plain &= *byte == b'\n' || is_line_byte(*byte);
+    }
+    plain
 }
