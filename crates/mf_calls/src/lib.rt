@@ -2,6 +2,7 @@
 #![tactic(auto)]
 
 mod boots;
+mod boxed;
 mod generated;
 mod limits;
 mod names;
@@ -10,6 +11,7 @@ mod script;
 mod tunable;
 
 pub use boots::{is_booted, may_ask_for};
+pub use boxed::Boxed;
 pub use generated::generate;
 pub use limits::{
     ALL_LINES_LIMIT, BOOT_LIMIT, FILE_LIMIT, LINE_LIMIT, MODE_LIMIT, RULE_LIST_LIMIT, STEP_LIMIT,

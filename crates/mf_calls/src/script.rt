@@ -4,7 +4,7 @@ ghost use Rattle.std.specs.List.{position};
 ghost use Rattle.std.specs.Option.{option_copied};
 ghost use Rattle.std.specs.Str.{bytes_eq};
 
-use crate::{CONTENT_LIMIT, SCRIPT_LIMIT};
+use crate::{Boxed, CONTENT_LIMIT, SCRIPT_LIMIT};
 use mf_cred::{Cred, FileView};
 use mf_elem::Request;
 use mf_errno::{Module, Priv};
@@ -75,7 +75,7 @@ pub enum Call {
     /// Gives the pipe what the label text says, as mac_set_fd(3) does.
     Setpipemac(Word, Name),
     /// Sends the bytes as one message from the first socket to the second.
-    Send(Name, Name, Bytes<SCRIPT_LIMIT>),
+    Send(Name, Boxed<Name>, Boxed<Bytes<SCRIPT_LIMIT>>),
     /// Receives the oldest message of the socket.
     Recv(Name),
     /// Asks whether the socket is visible.
@@ -95,9 +95,9 @@ pub enum Call {
     /// Lists the rules about files, as ugidfw(8) does.
     UgidfwList,
     /// Adds the rule under the lowest free number.
-    UgidfwAdd(Rule),
+    UgidfwAdd(Boxed<Rule>),
     /// Puts the rule under the number, in place of the one that it may have.
-    UgidfwSet(u32, Rule),
+    UgidfwSet(u32, Boxed<Rule>),
     /// Removes the rule of the number.
     UgidfwRemove(u32),
 }
@@ -131,7 +131,7 @@ impl Call {
 /// A line of a task: a call of the task's own process, or of the child of that name.
 #[derive(Drop)]
 pub struct Line {
-    pub child: Option<Name>,
+    pub child: Option<Boxed<Name>>,
     pub call: Call,
 }
 
@@ -142,7 +142,7 @@ impl Line {
     {
         match &self.child {
             None => None,
-            Some(name) => Some(name.as_str()),
+            Some(name) => Some(name.get().as_str()),
         }
     }
 }

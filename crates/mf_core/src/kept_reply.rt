@@ -1,15 +1,17 @@
 //! Replies as a history keeps them.
 ghost use Rattle.std.specs.Prelude.{◌≡◌, IfOk, IsOk, false};
+ghost use Rattle.mf_plan.specs.declared.reply.Reply.TheVariants as replies;
 ghost use Rattle.mf_perform.specs.Refused.{is_ok};
 
+use mf_cred::FileView;
 use mf_errno::{Errno, Module};
 use mf_item::CheckOp;
 use mf_plan::{Payload, Reply};
 use std::alloc::{AllocError, Global};
 use std::marker::Model;
 
-/// A reply that a history keeps. Most take no memory: those of calls that are denied, refused, or done and hand nothing
-/// back. Contracts see the reply.
+/// A reply that a history keeps. Most take no memory: those of calls that are denied, refused, or done and hand back
+/// nothing or a few numbers. Contracts see the reply.
 #[derive(Drop)]
 pub struct KeptReply {
     kept: Kept,
@@ -27,6 +29,16 @@ pub enum Kept {
         by: Option<Module>,
     },
     Refused(Errno),
+    /// The call was done, and handed back attributes and a size. In this order they take no more room than a box.
+    Stat {
+        dir: bool,
+        mode: u16,
+        uid: u32,
+        gid: u32,
+        size: u32,
+    },
+    Size(u32),
+    Fd(u32),
     Other(Box<Reply>),
 }
 
@@ -45,21 +57,46 @@ impl KeptReply {
         ensures value { IfOk result (λ kept. kept ≡ reply) }
         ensures memory { is_ok reply ≡ false → IsOk result }
     {
-        let kept = match reply {
-            Reply::Ok(Payload::None) => Kept::Done,
+        match reply {
+            Reply::Ok(payload) => KeptReply::done(alloc, payload),
             Reply::Denied {
                 errno,
                 op,
                 item,
                 by,
-            } => Kept::Denied {
-                errno,
-                op,
-                item,
-                by,
+            } => {
+                let kept = Kept::Denied {
+                    errno,
+                    op,
+                    item,
+                    by,
+                };
+                Ok(KeptReply { kept })
+            }
+            Reply::Refused(errno) => {
+                let kept = Kept::Refused(errno);
+                Ok(KeptReply { kept })
+            }
+        }
+    }
+
+    /// Keeps the reply to a call that was done and handed that back.
+    #[inline(always)]
+    pub(crate) fn done(alloc: Global, payload: Payload) -> Result<KeptReply, AllocError>
+        ensures value { IfOk result (λ kept. kept ≡ replies.Ok payload) }
+    {
+        let kept = match payload {
+            Payload::None => Kept::Done,
+            Payload::Stat(file, size) => Kept::Stat {
+                dir: file.dir,
+                mode: file.mode,
+                uid: file.uid,
+                gid: file.gid,
+                size,
             },
-            Reply::Refused(errno) => Kept::Refused(errno),
-            other => Kept::Other(Box::new(alloc, other)?),
+            Payload::Size(size) => Kept::Size(size),
+            Payload::Fd(number) => Kept::Fd(number),
+            other => Kept::Other(Box::new(alloc, Reply::Ok(other))?),
         };
         Ok(KeptReply { kept })
     }
@@ -69,7 +106,7 @@ impl KeptReply {
         ensures { result ≡ is_ok self.now }
     {
         match &self.kept {
-            Kept::Done => true,
+            Kept::Done | Kept::Stat { .. } | Kept::Size(_) | Kept::Fd(_) => true,
             Kept::Denied { .. } | Kept::Refused(_) => false,
             Kept::Other(reply) => is_done(reply),
         }
@@ -93,6 +130,23 @@ impl KeptReply {
                 by: *by,
             }),
             Kept::Refused(errno) => LentReply::of(Reply::Refused(*errno)),
+            Kept::Stat {
+                dir,
+                mode,
+                uid,
+                gid,
+                size,
+            } => {
+                let file = FileView {
+                    uid: *uid,
+                    gid: *gid,
+                    mode: *mode,
+                    dir: *dir,
+                };
+                LentReply::of(Reply::Ok(Payload::Stat(file, *size)))
+            }
+            Kept::Size(size) => LentReply::of(Reply::Ok(Payload::Size(*size))),
+            Kept::Fd(number) => LentReply::of(Reply::Ok(Payload::Fd(*number))),
             Kept::Other(reply) => LentReply {
                 kept: Some(reply),
                 made: Reply::Ok(Payload::None),

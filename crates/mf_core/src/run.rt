@@ -162,7 +162,7 @@ impl<'s> Run<'s> {
         }
         let line = self.line(task);
         let payload = payload_of(alloc, &self.state, found, &line.call)?;
-        KeptReply::new(alloc, Reply::Ok(payload))
+        KeptReply::done(alloc, payload)
     }
 
     /// The task begins an entry.

@@ -82,7 +82,7 @@ fn read_found(
         Call::Kldstat => Ok(Payload::Modules(loaded(&state.specs))),
         Call::Kldload(name) => Ok(slot(state, name.as_str())),
         Call::UgidfwList => rules(alloc, &state.specs),
-        Call::UgidfwAdd(rule) => Ok(added(&state.specs, *rule)),
+        Call::UgidfwAdd(rule) => Ok(added(&state.specs, *rule.get())),
         _ => Ok(Payload::None),
     }
 }

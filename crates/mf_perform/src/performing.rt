@@ -106,7 +106,7 @@ fn perform_by(
             return make_channel(alloc, state, caller, Channel::Socket, name.as_str());
         }
         Call::Pread(_) => empty(state, target),
-        Call::Send(_, _, text) => return deliver(alloc, state, target, text.as_slice()),
+        Call::Send(_, _, text) => return deliver(alloc, state, target, text.get().as_slice()),
         Call::Recv(_) => receive(state, target),
         _ => {}
     }

@@ -241,7 +241,7 @@ fn ask_on_socket(
 {
     match call {
         Call::Socket(name) => make(state, state.objects.socket(name.as_str())),
-        Call::Send(from, to, _) => send(state, caller, from, to, checks),
+        Call::Send(from, to, _) => send(state, caller, from, to.get(), checks),
         Call::Recv(name) => recv(state, caller, name, checks),
         Call::Seesock(name) => {
             let op = CheckOp::SocketVisible;

@@ -79,8 +79,8 @@ fn setting_of(state: &State, call: &Call) -> (Option<Module>, Option<Change>)
             owner_named(name.as_str()),
             asked_named(state, name.as_str(), value.as_str()),
         ),
-        Call::UgidfwAdd(rule) => of_rules(Change::RuleAdd(*rule)),
-        Call::UgidfwSet(number, rule) => of_rules(Change::RuleSet(*number, *rule)),
+        Call::UgidfwAdd(rule) => of_rules(Change::RuleAdd(*rule.get())),
+        Call::UgidfwSet(number, rule) => of_rules(Change::RuleSet(*number, *rule.get())),
         Call::UgidfwRemove(number) => of_rules(Change::RuleRemove(*number)),
         _ => (None, None),
     }

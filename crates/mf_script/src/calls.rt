@@ -10,7 +10,7 @@ ghost use Rattle.mf_script.specs.Calls.{call_in, call_named, call_words, calls, 
 use crate::error::ScriptFault;
 use crate::refusal::{Refusal, faulty};
 use crate::{Words, names, numbers, parts};
-use mf_calls::Call;
+use mf_calls::{Boxed, Call};
 use std::alloc::Global;
 
 fn write(alloc: Global, words: &mut Words) -> Result<Call, Refusal>
@@ -85,7 +85,9 @@ fn send(alloc: Global, words: &mut Words) -> Result<Call, Refusal>
 {
     let from = names::name(alloc, words)?;
     let to = names::name(alloc, words)?;
+    let to = Boxed::new(alloc, to)?;
     let text = parts::text(alloc, words)?;
+    let text = Boxed::new(alloc, text)?;
     Ok(Call::Send(from, to, text))
 }
 
@@ -112,7 +114,7 @@ fn add_rule(alloc: Global, words: &mut Words) -> Result<Call, Refusal>
     ensures { Gives (λ c. (c, words.new)) result (add_rule words.old) }
 {
     let rule = parts::rule(alloc, words)?;
-    Ok(Call::UgidfwAdd(rule))
+    Ok(Call::UgidfwAdd(Boxed::new(alloc, rule)?))
 }
 
 #[tactic(auto, unfolding(crate::specs::Calls::set_rule, crate::specs::Readers::and_then))]
@@ -121,7 +123,7 @@ fn set_rule(alloc: Global, words: &mut Words) -> Result<Call, Refusal>
 {
     let number = numbers::rule_number(words)?;
     let rule = parts::rule(alloc, words)?;
-    Ok(Call::UgidfwSet(number, rule))
+    Ok(Call::UgidfwSet(number, Boxed::new(alloc, rule)?))
 }
 
 /// What ugidfw(8) is to do, by the word behind it.

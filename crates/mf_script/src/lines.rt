@@ -8,7 +8,7 @@ ghost use Rattle.mf_script.specs.Lines.{boot_words, tunable_words, file_content,
 use crate::error::ScriptFault;
 use crate::refusal::{Refusal, faulty};
 use crate::{Words, calls, names, numbers, parts};
-use mf_calls::{Bytes, Line, Name, Path, SCRIPT_LIMIT, Step, StepKind, Word};
+use mf_calls::{Boxed, Bytes, Line, Name, Path, SCRIPT_LIMIT, Step, StepKind, Word};
 use mf_cred::{Cred, FileView};
 use std::alloc::Global;
 
@@ -143,7 +143,7 @@ pub fn line_words(alloc: Global, first: &str, words: &mut Words) -> Result<Line,
             Ok(Line { child: None, call })
         }
         Some(name) => {
-            let child = names::name_of(alloc, name)?;
+            let child = Boxed::new(alloc, names::name_of(alloc, name)?)?;
             let call = calls::call_words(alloc, words)?;
             Ok(Line {
                 child: Some(child),

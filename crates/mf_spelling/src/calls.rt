@@ -146,17 +146,17 @@ fn push_further(call: &Call, out: &mut String) -> Result<(), AllocError>
         Call::OpenFd(_, read, write) => push_word(open_mode(*read, *write), out),
         Call::Setpipemac(_, name) | Call::Setsockmac(_, name) => push_word(name.as_str(), out),
         Call::Send(_, to, text) => {
-            push_word(to.as_str(), out)?;
-            push_text(text.as_slice(), out)
+            push_word(to.get().as_str(), out)?;
+            push_text(text.get().as_slice(), out)
         }
         Call::Bind(_, tcp, port) => {
             push_word(protocol(*tcp), out)?;
             push_number(u32::from(*port), out)
         }
-        Call::UgidfwAdd(rule) => push_rule(rule, out),
+        Call::UgidfwAdd(rule) => push_rule(rule.get(), out),
         Call::UgidfwSet(number, rule) => {
             push_number(*number, out)?;
-            push_rule(rule, out)
+            push_rule(rule.get(), out)
         }
         Call::UgidfwRemove(number) => push_number(*number, out),
         _ => Ok(()),

@@ -68,8 +68,8 @@ pub(super) fn on_socket<'c>(
 {
     match call {
         Call::Send(from, to, text) => {
-            let ends = sockets(kernel, walk, me, from, to)?;
-            send(kernel, walk, me, text.as_slice(), ends)
+            let ends = sockets(kernel, walk, me, from, to.get())?;
+            send(kernel, walk, me, text.get().as_slice(), ends)
         }
         Call::Recv(name) => {
             let id = named(kernel, Kind::Socket, name)?;

@@ -66,11 +66,11 @@ pub(super) fn on_setting<'c>(
         }
         Call::UgidfwAdd(rule) => {
             let module = changing(kernel, me, false, Some(Module::Bsdextended))?;
-            add(kernel, me, module, Change::RuleAdd(*rule))
+            add(kernel, me, module, Change::RuleAdd(*rule.get()))
         }
         Call::UgidfwSet(number, rule) => {
             let module = changing(kernel, me, false, Some(Module::Bsdextended))?;
-            set(kernel, me, module, Change::RuleSet(*number, *rule))
+            set(kernel, me, module, Change::RuleSet(*number, *rule.get()))
         }
         Call::UgidfwRemove(number) => {
             let module = changing(kernel, me, false, Some(Module::Bsdextended))?;

@@ -8,14 +8,15 @@ use Rattle.mf_audit.proofs.rows.about_channels.on_socket.Goals as goal
 
 pub returns-in_err-ends-in-Send : goal.returns-in_err-ends-in-Send
 returns-in_err-ends-in-Send c =
-    missed c.args.kernel.now c.args._task.now c.args.me c.args.call.now (call.Send c.in-Send.from c.in-Send.to c.in-Send.text) _ c.args.walk.now _ _ c.in-Send.is
+    missed c.args.kernel.now c.args._task.now c.args.me c.args.call.now (call.Send c.in-Send.from c.get.result.now c.in-Send.text) _ c.args.walk.now _ _ (c.in-Send.is ∙ ap (λ to. call.Send c.in-Send.from to c.in-Send.text) (sym c.get.ensures))
     (c.in_err-ends-in-Send.ensures.way) (c.from_residual.ensures.1)
 
 pub returns-in_ok-ends-in-Send : goal.returns-in_ok-ends-in-Send
 returns-in_ok-ends-in-Send c =
-    found c.args.kernel.now c.args._task.now c.args.me c.args.call.now (call.Send c.in-Send.from c.in-Send.to c.as_slice.result.now) c.in_ok-ends-in-Send.ends c.args.walk.now _ _ _ (c.in-Send.is ∙ ap (call.Send c.in-Send.from c.in-Send.to) (sym c.as_slice.ensures.value))
+    found c.args.kernel.now c.args._task.now c.args.me c.args.call.now (call.Send c.in-Send.from c.get.result.now c.as_slice.result.now) c.in_ok-ends-in-Send.ends c.args.walk.now _ _ _
+    (c.in-Send.is ∙ ap (λ to. call.Send c.in-Send.from to c.in-Send.text) (sym c.get.ensures) ∙ ap (call.Send c.in-Send.from c.get.result.now) (sym (c.as_slice.ensures.value ∙ c.get-2.ensures)))
     (c.in_ok-ends-in-Send.ensures.way)
-    (c.send.ensures c.args._task.now c.in-Send.from c.in-Send.to)
+    (c.send.ensures c.args._task.now c.in-Send.from c.get.result.now)
 
 pub returns-in_err-id-in-Recv : goal.returns-in_err-id-in-Recv
 returns-in_err-id-in-Recv c =

@@ -1,4 +1,4 @@
-use Rattle.std.proofs.Common.{Some, Ok, Err, false, sym, subst}
+use Rattle.std.proofs.Common.{Some, Ok, Err, false, ap, sym, subst, ◌∙◌}
 use Rattle.mf_errno.specs.declared.module.Module.TheVariants as modules
 use Rattle.mf_policy.specs.declared.settings.Change.TheVariants.{RuleAdd, RuleSet, RuleRemove}
 use Rattle.mf_calls.specs.declared.script.Call.{Call}
@@ -23,8 +23,9 @@ returns-in_err-module-in-UgidfwAdd c walk =
 pub returns-in_ok-module-in-UgidfwAdd : goal.returns-in_ok-module-in-UgidfwAdd
 returns-in_ok-module-in-UgidfwAdd c walk =
     let m = c.in_ok-module-in-UgidfwAdd.«module» in
-    found c.args.kernel.now c.args._task.now c.args.me c.args.call.now (call.UgidfwAdd c.in-UgidfwAdd.rule) (m, RuleAdd c.in-UgidfwAdd.rule) walk _ _ _ c.in-UgidfwAdd.is
-    (setting_there c.args.kernel.now c.args.me false (Some modules.Bsdextended) (Some (RuleAdd c.in-UgidfwAdd.rule)) (Ok m) walk c.in_ok-module-in-UgidfwAdd.ensures)
+    let rule = c.get-in-UgidfwAdd.result.now in
+    found c.args.kernel.now c.args._task.now c.args.me c.args.call.now (call.UgidfwAdd rule) (m, RuleAdd rule) walk _ _ _ (c.in-UgidfwAdd.is ∙ ap call.UgidfwAdd (sym c.get-in-UgidfwAdd.ensures))
+    (setting_there c.args.kernel.now c.args.me false (Some modules.Bsdextended) (Some (RuleAdd rule)) (Ok m) walk c.in_ok-module-in-UgidfwAdd.ensures)
     (c.add.ensures c.args._task.now walk)
 
 pub returns-in_err-module-in-UgidfwSet : goal.returns-in_err-module-in-UgidfwSet
@@ -36,8 +37,9 @@ returns-in_err-module-in-UgidfwSet c walk =
 pub returns-in_ok-module-in-UgidfwSet : goal.returns-in_ok-module-in-UgidfwSet
 returns-in_ok-module-in-UgidfwSet c walk =
     let m = c.in_ok-module-in-UgidfwSet.«module» in
-    found c.args.kernel.now c.args._task.now c.args.me c.args.call.now (call.UgidfwSet c.in-UgidfwSet.number c.in-UgidfwSet.rule) (m, RuleSet c.in-UgidfwSet.number c.in-UgidfwSet.rule) walk _ _ _ c.in-UgidfwSet.is
-    (setting_there c.args.kernel.now c.args.me false (Some modules.Bsdextended) (Some (RuleSet c.in-UgidfwSet.number c.in-UgidfwSet.rule)) (Ok m) walk c.in_ok-module-in-UgidfwSet.ensures)
+    let rule = c.get-in-UgidfwSet.result.now in
+    found c.args.kernel.now c.args._task.now c.args.me c.args.call.now (call.UgidfwSet c.in-UgidfwSet.number rule) (m, RuleSet c.in-UgidfwSet.number rule) walk _ _ _ (c.in-UgidfwSet.is ∙ ap (call.UgidfwSet c.in-UgidfwSet.number) (sym c.get-in-UgidfwSet.ensures))
+    (setting_there c.args.kernel.now c.args.me false (Some modules.Bsdextended) (Some (RuleSet c.in-UgidfwSet.number rule)) (Ok m) walk c.in_ok-module-in-UgidfwSet.ensures)
     (c.set.ensures c.args._task.now walk)
 
 pub returns-in_err-module-in-UgidfwRemove : goal.returns-in_err-module-in-UgidfwRemove

@@ -36,7 +36,7 @@ returns-clause-value c =
     let found = found_is c.args.self.now.script c.args.self.now.run c.args.task line c.line-line.ensures.value c.args.found.now (c.requires.found done) in
     let here = subst (λ (v : RunView). AreFound v.run.state name line.child line.call c.args.found.now) (sym c.self.view_is) found in
     let p : Payload = (call_row s name line.child line.call).payload in
-    kept c.new-2.result _ (reply.Ok c.in_ok-payload.payload) c.new-2.ensures.value
+    kept c.done.result _ (reply.Ok c.in_ok-payload.payload) c.done.ensures.value
     (reply_by c.args.self.now.script c.args.self.now.run c.args.task line c.line-line.ensures.value c.args.plan.now c.requires.plan c.args.verdict.now c.requires.verdict
     ∙ ap (λ (r : Reply). Some r) (c.refusal_of.ensures.reply p ∙ ap (λ (o : Option Reply). refused_or o p) c.in_default.is)
     ∙ ap (λ (q : Payload). Some (reply.Ok q))
