@@ -151,7 +151,8 @@ impl<'s> TrackedCore<'s> {
     }
 
     /// Commits the call that the task has entered for, as `Core::done` does, and notes what it moves. The error is want of memory
-    /// for the call: where it lacks for the sources, nothing more is noted.
+    /// for the call: where it lacks for the sources, nothing more is noted. A plan that is known to be that of the call isn't compared
+    /// where the outline is at hand.
     pub fn done<P: Policy>(
         &mut self,
         alloc: Global,
@@ -159,10 +160,13 @@ impl<'s> TrackedCore<'s> {
         list: &Listed<'_, P>,
         plan: &Plan,
         verdict: &Verdict,
+        is_known: bool,
     ) -> Result<Commit, AllocError>
         requires task { task < length self.old.script.tasks }
         requires turn { turn_at self.old task ≡ turn.Entered }
         requires verdict { verdict.now ≡ verdict_of list.now plan.now }
+        requires known { IsTrue is_known
+            → next_plan self.old.script (run_state self.old) task ≡ Some plan.now }
         ensures commit { IfOk result
             (λ commit. Commits self.old task list.now plan.now commit self.new) }
         ensures progress { IfOk result
@@ -175,7 +179,7 @@ impl<'s> TrackedCore<'s> {
         let is_planned = was_planned_last(self.planned, task);
         self.planned = None;
         let outline = &mut self.outline;
-        if !is_plan_current(&self.core, task, list, plan, is_planned, outline) {
+        if !is_plan_current(&self.core, task, list, plan, is_planned, is_known, outline) {
             return Ok(Commit::Stale);
         }
         let reply = self.core.reply(alloc, task, plan, &outline.found, verdict)?;
@@ -232,29 +236,34 @@ fn was_planned_last(planned: Option<u32>, task: u32) -> bool
 }
 
 /// Whether the plan and the listed policies are those of now, as `Core::is_current` says: by the outline at hand where that is of the
-/// task's call, and else by one that is made anew.
+/// task's call, and else by one that is made anew. A plan that is known to be that of the call needn't be compared.
 fn is_plan_current<P: Policy>(
     core: &Core,
     task: u32,
     list: &Listed<'_, P>,
     plan: &Plan,
     is_planned: bool,
+    is_known: bool,
     outline: &mut Outline,
 ) -> bool
     requires task { task < length core.now.script.tasks }
     requires turn { turn_at core.now task ≡ turn.Entered }
     requires planned { IsTrue is_planned
         → IsNextOutline core.now.script (run_state core.now) task outline.old }
+    requires known { IsTrue is_known
+        → next_plan core.now.script (run_state core.now) task ≡ Some plan.now }
     ensures is { IsTrue result ↔ IsCurrent core.now task list.now plan.now }
     ensures found { plan.now.tail ≡ Do → IsTrue result
         → IsNextFound core.now.script (run_state core.now) task outline.new.found }
     ensures outline { IsTrue result
         → IsNextOutline core.now.script (run_state core.now) task outline.new }
 {
-    if is_planned {
-        core.is_current_by_outline(task, list, plan, outline)
-    } else {
+    if !is_planned {
         core.is_current(task, list, plan, outline)
+    } else if is_known {
+        list.same_specs(&core.state().specs)
+    } else {
+        core.is_current_by_outline(task, list, plan, outline)
     }
 }
 

@@ -22,7 +22,7 @@ use mf_policy::Policy;
 use mf_ports::{Portacl, Seeotheruids};
 use mf_priority::Priority;
 use mf_script::read_script;
-use mf_share::Job;
+use mf_share::{Job, NewRegister};
 use std::alloc::{AllocError, Global};
 use std::marker::Brand;
 use std::process::Abort;
@@ -61,6 +61,7 @@ fn history_over<P: Policy, J: Job, B: Ledger, R: Wait + Abort>(
     modules: Vec<P>,
     lines: Blank,
     busy: Blank,
+    register: NewRegister,
 ) -> Result<String, AllocError>
     requires formed { IsWellFormed script.now }
     requires modules { AreAllModules (map (λ p. module_of (P.spec p)) modules.items)
@@ -70,11 +71,14 @@ fn history_over<P: Policy, J: Job, B: Ledger, R: Wait + Abort>(
     requires lines_parts { (lines.parts ≡ J.parts) × (lines.parts ≡ length script.now.tasks + 1) }
     requires busy_name { busy.name ≡ B.name }
     requires busy_parts { (busy.parts ≡ B.parts) × (busy.parts ≡ length script.now.tasks + 1) }
+    requires register_name { register ≡ J.register }
 {
     match scenario {
         Scenario::Growths => growths::history_over(rt, alloc, script, modules),
         Scenario::ChangedDuringACall => {
-            kernel::changed_during_a_call::<P, J, B, R>(rt, alloc, script, modules, lines, busy)
+            kernel::changed_during_a_call::<P, J, B, R>(
+                rt, alloc, script, modules, lines, busy, register,
+            )
         }
         Scenario::ChangeDuringEntry => steps::change_during_entry(rt, alloc, script, modules),
     }
@@ -136,6 +140,7 @@ fn over_modules<R: Wait + Abort>(
         list,
         Blank::new(parts),
         Blank::new(parts),
+        NewRegister::new(),
     )
 }
 

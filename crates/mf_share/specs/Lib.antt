@@ -1,4 +1,5 @@
 pub mod Laws
+pub mod Register
 pub mod Policies
 pub mod Weights
 pub mod Passes

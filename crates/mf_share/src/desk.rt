@@ -11,34 +11,46 @@ ghost use Rattle.mf_core.specs.declared.progress.Turn.TheVariants as turn;
 ghost use Rattle.mf_core.specs.LegalHistory.{next_reply};
 ghost use Rattle.mf_core.specs.Next.{next_plan};
 ghost use Rattle.mf_core.specs.Policies.{StaysWhileWaiting, static_of};
-ghost use Rattle.mf_core.specs.CoreView.{with_next, specs_of, run_state, open_of, Changes, Commits};
+ghost use Rattle.mf_core.specs.CoreView.{CoreView, with_next, specs_of, run_state, open_of, Changes, Commits};
+ghost use Rattle.mf_share.specs.Register.{IsNoted};
 ghost use Rattle.mf_share.specs.Passes.{AgreesWithPass, AgreesWithTicket, IsCoreOf, pass_changed, pass_left, pass_turn, ticket_after, ticket_for};
 
 use crate::pass::{Job, Pass, Ticket};
 use crate::policies::Policies;
+use crate::register::{KeptPlan, Register};
 use mf_core::{ChangeOutcome, Commit, Turn};
 use mf_flow::TrackedCore;
 use mf_list::{Fixed, Listed};
 use mf_perform::Verdict;
-use mf_plan::Plan;
 use mf_policy::Policy;
 use std::alloc::{AllocError, Global};
 use std::marker::Model;
 use std::sync::ledger::{Book, Ledger};
 
-/// A core of the script that `J` names, with its sources, the total of lines done, and that of what open entries weigh. Contracts see
-/// the core. It agrees with a pass or a ticket where the core's turn of the task, and its lines done, are those that the pass or the
+/// A core of the script that `J` names, with its sources, the total of lines done, that of what open entries weigh, and the register of
+/// the plans made. Contracts see the core. It agrees with a pass or a ticket where the core's turn of the task, and its lines done, are those that the pass or the
 /// ticket says.
 #[derive(Drop)]
 pub struct Desk<'s, J: Job, B: Ledger> {
     pub(crate) tracked: TrackedCore<'s>,
     pub(crate) done: Book<J>,
     pub(crate) busy: Book<B>,
+    pub(crate) register: Register<J>,
+    /// The plan that was made last, until the next commit or event.
+    pub(crate) noted: Option<Noted>,
+}
+
+/// That the plan of the task's call has that number in the register.
+#[derive(Clone, Copy)]
+pub(crate) struct Noted {
+    task: u32,
+    number: u64,
 }
 
 impl<'s, J: Job, B: Ledger> Model for Desk<'s, J, B> {
-    ghost use Rattle.std.specs.Prelude.{◌≡◌};
+    ghost use Rattle.std.specs.Prelude.{◌≡◌, IfSome};
     ghost use Rattle.mf_core.specs.CoreView.{CoreView, done_of};
+    ghost use Rattle.mf_share.specs.Register.{IsNoted};
     ghost use Rattle.mf_share.specs.Weights.{open_weight};
 
     ghost Value = { CoreView };
@@ -46,7 +58,9 @@ impl<'s, J: Job, B: Ledger> Model for Desk<'s, J, B> {
     ghost view = { λ d. d.tracked };
 
     ghost invariant = { λ d. (d.tracked.script ≡ J.script) × (d.done.total ≡ done_of d.tracked)
-        × (d.busy.total ≡ open_weight J.script d.tracked) };
+        × (d.busy.total ≡ open_weight J.script d.tracked)
+        × IfSome d.noted
+        (λ at. IsNoted d.tracked d.register at.task at.number) };
 }
 
 impl<'s, J: Job, B: Ledger> Desk<'s, J, B> {
@@ -72,13 +86,14 @@ impl<'s, J: Job, B: Ledger> Desk<'s, J, B> {
         if !self.agrees_with(pass, Turn::Entry) {
             return None;
         }
+        self.noted = None;
         self.tracked.enter(pass.task());
         Some(pass.ticket(&mut self.busy))
     }
 
     /// Makes `plan` that of the ticket's call, from the present state. The desk is lent to be changed, since the outline of the call stays
     /// with its core. False where the core doesn't agree with the ticket; then nothing changes.
-    pub fn plan(&mut self, ticket: &Ticket<J, B>, plan: &mut Plan) -> bool
+    pub fn plan(&mut self, ticket: &Ticket<J, B>, plan: &mut KeptPlan<J>) -> bool
         requires { ticket.now.committed ≡ false }
         ensures made { IsTrue result → AgreesWithTicket self.old ticket.now
             × (next_plan self.old.script (run_state self.old) ticket.now.task ≡ Some plan.new) }
@@ -90,7 +105,9 @@ impl<'s, J: Job, B: Ledger> Desk<'s, J, B> {
         if !self.agrees_with_ticket(ticket) {
             return false;
         }
-        self.tracked.plan(ticket.task(), plan);
+        let task = ticket.task();
+        let number = plan.make(&mut self.tracked, task, &mut self.register);
+        self.noted = note_of(task, number);
         true
     }
 
@@ -102,7 +119,7 @@ impl<'s, J: Job, B: Ledger> Desk<'s, J, B> {
         alloc: Global,
         ticket: &mut Ticket<J, B>,
         list: &Listed<'_, P>,
-        plan: &Plan,
+        plan: &KeptPlan<J>,
         verdict: &Verdict,
     ) -> Result<Option<Commit>, AllocError>
         requires undone { ticket.old.committed ≡ false }
@@ -124,9 +141,12 @@ impl<'s, J: Job, B: Ledger> Desk<'s, J, B> {
         if !self.agrees_with_ticket(ticket) {
             return Ok(None);
         }
+        let task = ticket.task();
+        let is_known = is_noted(&self.register, self.noted, task, plan);
+        self.noted = None;
         let commit = self
             .tracked
-            .done(alloc, ticket.task(), list, plan, verdict)?;
+            .done(alloc, task, list, plan.plan(), verdict, is_known)?;
         ticket.commit(&mut self.busy, &commit);
         Ok(Some(commit))
     }
@@ -147,6 +167,7 @@ impl<'s, J: Job, B: Ledger> Desk<'s, J, B> {
         if !self.agrees_with_ticket(&ticket) {
             return Err(ticket);
         }
+        self.noted = None;
         self.tracked.leave(ticket.task());
         pass.spend(ticket, &mut self.done, &mut self.busy);
         Ok(())
@@ -252,6 +273,7 @@ impl<'s, J: Job, B: Ledger> Desk<'s, J, B> {
             → next_reply self.old.script (run_state self.old) pass.old.task ≡ Some reply
             → is_ok reply ≡ false → IsOk result }
     {
+        self.noted = None;
         let (list, catalogue) = (&mut policies.list, &mut policies.catalogue);
         let outcome = self
             .tracked
@@ -266,4 +288,31 @@ fn is_at(at: Turn, lines: u32, its_turn: Turn, its_lines: u32) -> bool
     ensures { IsTrue result ↔ ((at ≡ its_turn) × (lines ≡ its_lines)) }
 {
     at == its_turn && lines == its_lines
+}
+
+/// That the task's plan has that number, where it has one.
+fn note_of(task: u32, number: Option<u64>) -> Option<Noted>
+    ensures { IfSome result (λ at. (at.task ≡ task) × (number ≡ Some at.number)) }
+{
+    match number {
+        Some(number) => Some(Noted { task, number }),
+        None => None,
+    }
+}
+
+/// Whether the plan is known to be the one that was noted last, of that task.
+fn is_noted<J: Job>(
+    register: &Register<J>,
+    noted: Option<Noted>,
+    task: u32,
+    plan: &KeptPlan<J>,
+) -> bool
+    ensures { IsTrue result → (core : CoreView)
+        → IfSome noted (λ at. IsNoted core register.now at.task at.number)
+        → next_plan core.script (run_state core) task ≡ Some plan.now }
+{
+    match noted {
+        Some(at) => at.task == task && plan.is_numbered(register, at.number),
+        None => false,
+    }
 }

@@ -15,12 +15,12 @@ ghost use Rattle.mf_share.specs.Passes.{AgreesWithPass, AgreesWithTicket, AreBac
 use crate::desk::Desk;
 use crate::pass::{Job, Pass, Ticket};
 use crate::policies::Policies;
+use crate::register::{KeptPlan, NewRegister};
 use mf_calls::Script;
 use mf_core::{ChangeOutcome, Commit, Core, Turn};
 use mf_flow::TrackedCore;
 use mf_list::{Fixed, Listed};
 use mf_perform::Verdict;
-use mf_plan::Plan;
 use mf_policy::Policy;
 use std::alloc::{AllocError, Global};
 use std::marker::{Model, PhantomData};
@@ -78,14 +78,15 @@ pub struct Kernel<'s, P: Policy, J: Job, B: Ledger> {
 
 impl<'s, P: Policy, J: Job, B: Ledger> Kernel<'s, P, J, B> {
     /// A kernel before the first event of the script, and a pass for each task in order. `modules` has a policy of each
-    /// module, once, in its initial state. `J` names the script; each of the ledgers is cut into one part more than the
-    /// script has tasks.
+    /// module, once, in its initial state. `J` names the script and the register; each of the ledgers is cut into one part more
+    /// than the script has tasks.
     pub fn open(
         alloc: Global,
         script: &'s Script,
         modules: Vec<P>,
         lines: Blank,
         busy: Blank,
+        register: NewRegister,
     ) -> Result<(Kernel<'s, P, J, B>, Vec<Pass<J, B>>), AllocError>
         requires formed { IsWellFormed script.now }
         requires modules { AreAllModules (map (λ p. module_of (P.spec p)) modules.items) }
@@ -96,6 +97,7 @@ impl<'s, P: Policy, J: Job, B: Ledger> Kernel<'s, P, J, B> {
             × (lines.parts ≡ length script.now.tasks + 1) }
         requires busy_name { busy.name ≡ B.name }
         requires busy_parts { (busy.parts ≡ B.parts) × (busy.parts ≡ length script.now.tasks + 1) }
+        requires register_name { register ≡ J.register }
         ensures passes { IfOk result (λ r. AreOneEach J.script r.1.items) }
         ensures first { IfOk result (λ r. AreFirst r.1.items (length J.script.tasks)) }
     {
@@ -110,6 +112,8 @@ impl<'s, P: Policy, J: Job, B: Ledger> Kernel<'s, P, J, B> {
                 tracked,
                 done: done_book,
                 busy: busy_book,
+                register: register.named(),
+                noted: None,
             }),
             fixed,
             policies: RwLock::new(Policies {
@@ -164,7 +168,7 @@ impl<'s, P: Policy, J: Job, B: Ledger> Kernel<'s, P, J, B> {
     }
 
     /// Makes `plan` that of the ticket's call, from the state that the core is in during the call.
-    pub fn plan<R: Wait>(&self, rt: &R, ticket: &Ticket<J, B>, plan: &mut Plan)
+    pub fn plan<R: Wait>(&self, rt: &R, ticket: &Ticket<J, B>, plan: &mut KeptPlan<J>)
         requires { ticket.now.committed ≡ false }
         ensures found { (core : CoreView) × IsCoreOf J.script core
             × AgreesWithTicket core ticket.now
@@ -180,10 +184,10 @@ impl<'s, P: Policy, J: Job, B: Ledger> Kernel<'s, P, J, B> {
     }
 
     /// The listed policies' verdict on a plan, as of `Core::walk`. It takes no lock.
-    pub fn walk(list: &Listed<'_, P>, _ticket: &Ticket<J, B>, plan: &Plan) -> Verdict
+    pub fn walk(list: &Listed<'_, P>, _ticket: &Ticket<J, B>, plan: &KeptPlan<J>) -> Verdict
         ensures { result ≡ step.verdict_of list.now plan.now }
     {
-        Core::walk(list, plan)
+        Core::walk(list, plan.plan())
     }
 
     /// Commits the ticket's call, as `Core::done` does. After `Done` the ticket is committed.
@@ -193,7 +197,7 @@ impl<'s, P: Policy, J: Job, B: Ledger> Kernel<'s, P, J, B> {
         alloc: Global,
         ticket: &mut Ticket<J, B>,
         list: &Listed<'_, P>,
-        plan: &Plan,
+        plan: &KeptPlan<J>,
         verdict: &Verdict,
     ) -> Result<Commit, AllocError>
         requires undone { ticket.old.committed ≡ false }
@@ -291,6 +295,8 @@ impl<'s, P: Policy, J: Job, B: Ledger> Kernel<'s, P, J, B> {
             tracked,
             done: mut done_book,
             busy: mut busy_book,
+            register: _,
+            noted: _,
         } = desk.into_inner();
         let Own { mut done, mut busy } = own.into_inner();
         take_back(passes, &mut done, &mut busy);

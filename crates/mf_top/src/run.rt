@@ -20,9 +20,8 @@ use mf_core::{Commit, Turn};
 use mf_flow::TrackedCore;
 use mf_io::Gate;
 use mf_list::Listed;
-use mf_plan::Plan;
 use mf_policy::Policy;
-use mf_share::{Job, Kernel, Pass, Ticket};
+use mf_share::{Job, KeptPlan, Kernel, NewRegister, Pass, Ticket};
 use std::alloc::{AllocError, Global};
 use std::marker::Brand;
 use std::mem::forget;
@@ -105,10 +104,11 @@ fn run_core<'s, P: Policy, G: Gate, R: Threads + Wait + Sync>(
         modules,
         Blank::new(parts),
         Blank::new(parts),
+        NewRegister::new(),
     )
 }
 
-/// Runs each task to its end: in the core no entry is open, and all lines are done. `J` names the script; each of the
+/// Runs each task to its end: in the core no entry is open, and all lines are done. `J` names the script and the register; each of the
 /// ledgers is cut into one part more than there are tasks.
 fn run_tasks<
     's,
@@ -125,6 +125,7 @@ fn run_tasks<
     modules: Vec<P>,
     lines: Blank,
     busy: Blank,
+    register: NewRegister,
 ) -> Result<TrackedCore<'s>, AllocError>
     requires formed { IsWellFormed script.now }
     requires modules { AreAllModules (map (λ p. module_of (P.spec p)) modules.items) }
@@ -134,11 +135,14 @@ fn run_tasks<
     requires lines_parts { (lines.parts ≡ J.parts) × (lines.parts ≡ length script.now.tasks + 1) }
     requires busy_name { busy.name ≡ B.name }
     requires busy_parts { (busy.parts ≡ B.parts) × (busy.parts ≡ length script.now.tasks + 1) }
+    requires register_name { register ≡ J.register }
     ensures script { IfOk result (λ core. core.script ≡ script.now) }
     ensures entries { IfOk result (λ core. open_of core ≡ 0) }
     ensures lines { IfOk result (λ core. done_of core ≡ all_lines core.script) }
 {
-    let (kernel, mut passes) = Kernel::<P, J, B>::open(alloc, script, modules, lines, busy)?;
+    let (kernel, mut passes) = Kernel::<P, J, B>::open(
+        alloc, script, modules, lines, busy, register,
+    )?;
     let run = Run {
         rt,
         alloc,
@@ -201,14 +205,14 @@ impl<
         requires { pass.old.out ≡ false }
         ensures { IsBack pass.old pass.new }
     {
-        let mut plan = Plan::new();
+        let mut plan = KeptPlan::new();
         while is_line(self.kernel.turn(pass)) {
             self.run_line(pass, &mut plan);
         }
     }
 
     /// Does the next line of the pass's task.
-    fn run_line(&self, pass: &mut Pass<J, B>, plan: &mut Plan)
+    fn run_line(&self, pass: &mut Pass<J, B>, plan: &mut KeptPlan<J>)
         requires out { pass.old.out ≡ false }
         requires turn { IsLine (pass_turn J.script pass.old) }
         ensures { WentOn pass.old pass.new }
@@ -221,7 +225,7 @@ impl<
     }
 
     /// Does a line that is an entry.
-    fn run_entry(&self, pass: &mut Pass<J, B>, plan: &mut Plan)
+    fn run_entry(&self, pass: &mut Pass<J, B>, plan: &mut KeptPlan<J>)
         requires out { pass.old.out ≡ false }
         requires turn { pass_turn J.script pass.old ≡ turn.Entry }
         ensures { WentOn pass.old pass.new }
@@ -239,7 +243,7 @@ impl<
     fn run_call(
         &self,
         ticket: &mut Ticket<J, B>,
-        plan: &mut Plan,
+        plan: &mut KeptPlan<J>,
         at: Place,
     ) -> Result<(), AllocError>
         requires { ticket.old.committed ≡ false }

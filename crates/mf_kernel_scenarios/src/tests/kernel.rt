@@ -13,9 +13,8 @@ use mf_calls::Script;
 use mf_core::{Commit, Turn};
 use mf_list::Listed;
 use mf_perform::Verdict;
-use mf_plan::Plan;
 use mf_policy::Policy;
-use mf_share::{Job, Kernel, Pass, Ticket};
+use mf_share::{Job, KeptPlan, Kernel, NewRegister, Pass, Ticket};
 use std::alloc::{AllocError, Global};
 use std::process::Abort;
 use std::sync::Wait;
@@ -87,6 +86,7 @@ pub fn changed_during_a_call<P: Policy, J: Job, B: Ledger, R: Wait + Abort>(
     modules: Vec<P>,
     lines: Blank,
     busy: Blank,
+    register: NewRegister,
 ) -> Result<String, AllocError>
     requires formed { IsWellFormed script.now }
     requires modules { AreAllModules (map (λ p. module_of (P.spec p)) modules.items) }
@@ -96,8 +96,11 @@ pub fn changed_during_a_call<P: Policy, J: Job, B: Ledger, R: Wait + Abort>(
     requires lines_parts { (lines.parts ≡ J.parts) × (lines.parts ≡ length script.now.tasks + 1) }
     requires busy_name { busy.name ≡ B.name }
     requires busy_parts { (busy.parts ≡ B.parts) × (busy.parts ≡ length script.now.tasks + 1) }
+    requires register_name { register ≡ J.register }
 {
-    let (kernel, mut passes) = Kernel::<P, J, B>::open(alloc, script, modules, lines, busy)?;
+    let (kernel, mut passes) = Kernel::<P, J, B>::open(
+        alloc, script, modules, lines, busy, register,
+    )?;
     let are_done = calls_that_meet(rt, alloc, &kernel, &mut passes);
     let tracked = kernel.close(passes);
     assert!(rt; are_done);
@@ -120,7 +123,7 @@ fn calls_that_meet<P: Policy, J: Job, B: Ledger, R: Wait + Abort>(
     let list = &Listed::new(kernel.fixed(), policies.list());
     let mut first = enter(rt, kernel, &mut passes[0]);
     let mut second = enter(rt, kernel, &mut passes[1]);
-    let mut early = Plan::new();
+    let mut early = KeptPlan::new();
     kernel.plan(rt, &first, &mut early);
     let early_verdict = Kernel::walk(list, &first, &early);
     let changed = commit_after_no_plan(rt, alloc, kernel, &mut second, list);
@@ -155,7 +158,7 @@ fn commit_new_plan<P: Policy, J: Job, B: Ledger, R: Wait>(
     requires { ticket.old.committed ≡ false }
     ensures { IsSameTicket ticket.old ticket.new }
 {
-    let mut plan = Plan::new();
+    let mut plan = KeptPlan::new();
     kernel.plan(rt, ticket, &mut plan);
     let verdict = Kernel::walk(list, ticket, &plan);
     kernel.commit(rt, alloc, ticket, list, &plan, &verdict)
@@ -172,8 +175,8 @@ fn commit_after_no_plan<P: Policy, J: Job, B: Ledger, R: Wait>(
     requires { ticket.old.committed ≡ false }
     ensures { IsSameTicket ticket.old ticket.new }
 {
-    kernel.plan(rt, ticket, &mut Plan::new());
-    let none = Plan::new();
+    kernel.plan(rt, ticket, &mut KeptPlan::new());
+    let none = KeptPlan::new();
     let verdict = Kernel::walk(list, ticket, &none);
     commit_twice(rt, alloc, kernel, ticket, list, &none, &verdict)
 }
@@ -185,7 +188,7 @@ fn commit_twice<P: Policy, J: Job, B: Ledger, R: Wait>(
     kernel: &Kernel<P, J, B>,
     ticket: &mut Ticket<J, B>,
     list: &Listed<'_, P>,
-    early: &Plan,
+    early: &KeptPlan<J>,
     early_verdict: &Verdict,
 ) -> Result<Commit, AllocError>
     requires undone { ticket.old.committed ≡ false }

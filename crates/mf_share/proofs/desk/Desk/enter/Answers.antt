@@ -23,4 +23,5 @@ invariant_of-self g c =
       ap (λ (run : CoreView). run.script) c.enter.ensures.event ∙ c.self.invariant.0,
       c.self.invariant.1 ∙ sym c.enter.ensures.lines,
       omega (arith, c.ticket.ensures.total, heavier, weight, c.self.invariant.2),
+      tt,
     )

@@ -23,4 +23,5 @@ invariant_of-self g c =
       ap (λ (run : CoreView). run.script) c.leave.ensures.event ∙ c.self.invariant.0,
       omega (arith, c.spend.ensures.done, c.leave.ensures.lines, ap lines_left is, c.self.invariant.1),
       omega (arith, c.spend.ensures.busy, lighter, weight, c.self.invariant.2),
+      tt,
     )

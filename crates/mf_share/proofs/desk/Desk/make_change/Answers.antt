@@ -30,11 +30,12 @@ invariant_of-self g c =
     let is : turn_at core c.task.result ≡ turn.Change =
     pass_says g.J.Job.script core c.args.self.now c.args.pass.now c.task.result turn.Change c.self.view_is c.self.invariant.0 c.task.ensures c.requires.turn c.requires.agrees in
     let within : c.task.result < length g.J.Job.script.tasks = omega (arith, c.task.ensures, c.requires.task) in
-    change_counts g.J.Job.script core c.change-outcome.new.self c.task.result (λ by. c.note.new.self ≡ pass_changed by c.args.pass.now)
+    let counts = change_counts g.J.Job.script core c.change-outcome.new.self c.task.result (λ by. c.note.new.self ≡ pass_changed by c.args.pass.now)
     (c.note.new.self ≡ record c.args.pass.now { stopped = true })
     (c.change-outcome.new.list ≡ c.policies.inside.list) (c.change-outcome.new.catalogue ≡ c.policies.inside.catalogue) c.change-outcome.result c.self.inside.done.total c.note.new.done.total c.self.inside.busy.total
     (c.self.invariant.0, c.self.invariant.1, c.self.invariant.2) within is
-    c.change-outcome.ensures.outcome c.change-outcome.ensures.progress c.change-outcome.ensures.lines c.note.ensures.ok c.change-outcome.ensures.err c.note.ensures.err
+    c.change-outcome.ensures.outcome c.change-outcome.ensures.progress c.change-outcome.ensures.lines c.note.ensures.ok c.change-outcome.ensures.err c.note.ensures.err in
+    (counts.0, counts.1, counts.2, tt)
 
 pub invariant_of-policies : goal.invariant_of-policies
 invariant_of-policies g c =
