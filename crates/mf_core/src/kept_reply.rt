@@ -11,7 +11,7 @@ use std::alloc::{AllocError, Global};
 use std::marker::Model;
 
 /// A reply that a history keeps. Most take no memory: those of calls that are denied, refused, or done and hand back
-/// nothing or a few numbers. Contracts see the reply.
+/// nothing, attributes, a size or a descriptor. Contracts see the reply.
 #[derive(Drop)]
 pub struct KeptReply {
     kept: Kept,

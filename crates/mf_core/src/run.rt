@@ -137,7 +137,7 @@ impl<'s> Run<'s> {
     }
 
     /// The reply to the call of the task's next line. The plan, what was found as it was made, and the verdict of the state's
-    /// policies on it must be those of the call. Each entry's call goes through here.
+    /// policies on it must be those of the call. Inlined, since each call goes through here.
     #[inline(always)]
     pub fn reply(
         &self,

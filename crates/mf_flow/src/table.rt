@@ -37,7 +37,7 @@ pub struct Row {
     pub elements: ElemSet,
 }
 
-/// How many bytes most titles have at most.
+/// Room for a title, in bytes: few are longer.
 const TITLE_ROOM: usize = 24;
 
 /// Rows for mac_biba where it was booted, then for mac_mls, and then for mac_lomac, of the live entities by rising id.

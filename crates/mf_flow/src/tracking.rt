@@ -151,9 +151,57 @@ impl<'s> TrackedCore<'s> {
     }
 
     /// Commits the call that the task has entered for, as `Core::done` does, and notes what it moves. The error is want of memory
-    /// for the call: where it lacks for the sources, nothing more is noted. A plan that is known to be that of the call isn't compared
-    /// where the outline is at hand.
+    /// for the call: where it lacks for the sources, nothing more is noted.
     pub fn done<P: Policy>(
+        &mut self,
+        alloc: Global,
+        task: u32,
+        list: &Listed<'_, P>,
+        plan: &Plan,
+        verdict: &Verdict,
+    ) -> Result<Commit, AllocError>
+        requires task { task < length self.old.script.tasks }
+        requires turn { turn_at self.old task ≡ turn.Entered }
+        requires verdict { verdict.now ≡ verdict_of list.now plan.now }
+        ensures commit { IfOk result
+            (λ commit. Commits self.old task list.now plan.now commit self.new) }
+        ensures progress { IfOk result
+            (λ commit. AdvancesOn commit (progress_of self.old) task (progress_of self.new)) }
+        ensures lines { done_of self.new ≡ done_of self.old }
+        ensures err { OnErr result (self.new ≡ self.old) }
+        ensures memory { is_ok (reply_to plan.now verdict.now.denied payload.None) ≡ false
+            → IsOk result }
+    {
+        self.done_by(alloc, task, list, plan, verdict, false)
+    }
+
+    /// Commits as `done` does, where the plan is known to be that of the call: it isn't compared where the outline is at hand.
+    pub fn done_known<P: Policy>(
+        &mut self,
+        alloc: Global,
+        task: u32,
+        list: &Listed<'_, P>,
+        plan: &Plan,
+        verdict: &Verdict,
+    ) -> Result<Commit, AllocError>
+        requires task { task < length self.old.script.tasks }
+        requires turn { turn_at self.old task ≡ turn.Entered }
+        requires verdict { verdict.now ≡ verdict_of list.now plan.now }
+        requires known { next_plan self.old.script (run_state self.old) task ≡ Some plan.now }
+        ensures commit { IfOk result
+            (λ commit. Commits self.old task list.now plan.now commit self.new) }
+        ensures progress { IfOk result
+            (λ commit. AdvancesOn commit (progress_of self.old) task (progress_of self.new)) }
+        ensures lines { done_of self.new ≡ done_of self.old }
+        ensures err { OnErr result (self.new ≡ self.old) }
+        ensures memory { is_ok (reply_to plan.now verdict.now.denied payload.None) ≡ false
+            → IsOk result }
+    {
+        self.done_by(alloc, task, list, plan, verdict, true)
+    }
+
+    /// Commits the call, whose plan may be known to be that of the call.
+    fn done_by<P: Policy>(
         &mut self,
         alloc: Global,
         task: u32,

@@ -9,6 +9,10 @@ use Rattle.mf_core.specs.Next.{next_plan}
 abbrev pub IsKept : List Cell → List Plan → Type 0
 IsKept cells plans = cells ≡ (length plans, true) ∷ (0, true) ∷ []
 
+-- the register that stands for none
+abbrev pub no_register : Book
+no_register = record { number = 0; log_name = 0; cells_name = 0 }
+
 -- the word of a register
 abbrev pub word_of : Book → Named
 word_of b = record { tracked = true; key = 0; book = b }

@@ -1,4 +1,4 @@
-//! The value behind the kernel's lock: the core with its sources, and the books of lines done and of open entries.
+//! The value behind the kernel's lock: the core with its sources, the books of lines done and of open entries, and the register of plans.
 ghost use Rattle.std.specs.Prelude.{◌≡◌, ◌<◌, ◌≤◌, ◌++◌, ◌↔◌, true, false, length, IfOk, IsOk, IfErr, IfNone, IfSome, IsTrue, OnErr, Some};
 ghost use Rattle.mf_calls.specs.declared.limits.TheConstants.{LINE_LIMIT};
 ghost use Rattle.mf_plan.specs.declared.reply.Payload.TheVariants as payload;
@@ -11,25 +11,26 @@ ghost use Rattle.mf_core.specs.declared.progress.Turn.TheVariants as turn;
 ghost use Rattle.mf_core.specs.LegalHistory.{next_reply};
 ghost use Rattle.mf_core.specs.Next.{next_plan};
 ghost use Rattle.mf_core.specs.Policies.{StaysWhileWaiting, static_of};
-ghost use Rattle.mf_core.specs.CoreView.{CoreView, with_next, specs_of, run_state, open_of, Changes, Commits};
+ghost use Rattle.mf_core.specs.CoreView.{CoreView, with_next, specs_of, run_state, open_of, done_of, progress_of, AdvancesOn, Changes, Commits};
 ghost use Rattle.mf_share.specs.Register.{IsNoted};
 ghost use Rattle.mf_share.specs.Passes.{AgreesWithPass, AgreesWithTicket, IsCoreOf, pass_changed, pass_left, pass_turn, ticket_after, ticket_for};
 
 use crate::pass::{Job, Pass, Ticket};
 use crate::policies::Policies;
-use crate::register::{KeptPlan, Register};
+use crate::register::{NumberedPlan, Register};
 use mf_core::{ChangeOutcome, Commit, Turn};
 use mf_flow::TrackedCore;
 use mf_list::{Fixed, Listed};
 use mf_perform::Verdict;
+use mf_plan::Plan;
 use mf_policy::Policy;
 use std::alloc::{AllocError, Global};
 use std::marker::Model;
 use std::sync::ledger::{Book, Ledger};
 
-/// A core of the script that `J` names, with its sources, the total of lines done, that of what open entries weigh, and the register of
-/// the plans made. Contracts see the core. It agrees with a pass or a ticket where the core's turn of the task, and its lines done, are those that the pass or the
-/// ticket says.
+/// A core of the script that `J` names, with its sources, the totals of lines done and of what open entries weigh, and the register of the
+/// plans made. Contracts see the core. It agrees with a pass or a ticket where the core's turn of the task, and its lines done, are those
+/// that the pass or the ticket says.
 #[derive(Drop)]
 pub struct Desk<'s, J: Job, B: Ledger> {
     pub(crate) tracked: TrackedCore<'s>,
@@ -92,8 +93,8 @@ impl<'s, J: Job, B: Ledger> Desk<'s, J, B> {
     }
 
     /// Makes `plan` that of the ticket's call, from the present state. The desk is lent to be changed, since the outline of the call stays
-    /// with its core. False where the core doesn't agree with the ticket; then nothing changes.
-    pub fn plan(&mut self, ticket: &Ticket<J, B>, plan: &mut KeptPlan<J>) -> bool
+    /// with its core, and the number of the plan with the desk. False where the core doesn't agree with the ticket; then nothing changes.
+    pub fn plan(&mut self, ticket: &Ticket<J, B>, plan: &mut NumberedPlan<J>) -> bool
         requires { ticket.now.committed ≡ false }
         ensures made { IsTrue result → AgreesWithTicket self.old ticket.now
             × (next_plan self.old.script (run_state self.old) ticket.now.task ≡ Some plan.new) }
@@ -119,7 +120,7 @@ impl<'s, J: Job, B: Ledger> Desk<'s, J, B> {
         alloc: Global,
         ticket: &mut Ticket<J, B>,
         list: &Listed<'_, P>,
-        plan: &KeptPlan<J>,
+        plan: &NumberedPlan<J>,
         verdict: &Verdict,
     ) -> Result<Option<Commit>, AllocError>
         requires undone { ticket.old.committed ≡ false }
@@ -144,9 +145,15 @@ impl<'s, J: Job, B: Ledger> Desk<'s, J, B> {
         let task = ticket.task();
         let is_known = is_noted(&self.register, self.noted, task, plan);
         self.noted = None;
-        let commit = self
-            .tracked
-            .done(alloc, task, list, plan.plan(), verdict, is_known)?;
+        let commit = finish(
+            alloc,
+            &mut self.tracked,
+            task,
+            list,
+            plan.plan(),
+            verdict,
+            is_known,
+        )?;
         ticket.commit(&mut self.busy, &commit);
         Ok(Some(commit))
     }
@@ -305,7 +312,7 @@ fn is_noted<J: Job>(
     register: &Register<J>,
     noted: Option<Noted>,
     task: u32,
-    plan: &KeptPlan<J>,
+    plan: &NumberedPlan<J>,
 ) -> bool
     ensures { IsTrue result → (core : CoreView)
         → IfSome noted (λ at. IsNoted core register.now at.task at.number)
@@ -314,5 +321,36 @@ fn is_noted<J: Job>(
     match noted {
         Some(at) => at.task == task && plan.is_numbered(register, at.number),
         None => false,
+    }
+}
+
+/// Commits the task's call, whose plan may be known to be that of the call.
+fn finish<P: Policy>(
+    alloc: Global,
+    tracked: &mut TrackedCore,
+    task: u32,
+    list: &Listed<'_, P>,
+    plan: &Plan,
+    verdict: &Verdict,
+    is_known: bool,
+) -> Result<Commit, AllocError>
+    requires task { task < length tracked.old.script.tasks }
+    requires turn { turn_at tracked.old task ≡ turn.Entered }
+    requires verdict { verdict.now ≡ verdict_of list.now plan.now }
+    requires known { IsTrue is_known
+        → next_plan tracked.old.script (run_state tracked.old) task ≡ Some plan.now }
+    ensures commit { IfOk result
+        (λ commit. Commits tracked.old task list.now plan.now commit tracked.new) }
+    ensures progress { IfOk result
+        (λ commit. AdvancesOn commit (progress_of tracked.old) task (progress_of tracked.new)) }
+    ensures lines { done_of tracked.new ≡ done_of tracked.old }
+    ensures err { OnErr result (tracked.new ≡ tracked.old) }
+    ensures memory { is_ok (reply_to plan.now verdict.now.denied payload.None) ≡ false
+        → IsOk result }
+{
+    if is_known {
+        tracked.done_known(alloc, task, list, plan, verdict)
+    } else {
+        tracked.done(alloc, task, list, plan, verdict)
     }
 }

@@ -15,7 +15,7 @@ ghost use Rattle.mf_share.specs.Passes.{AgreesWithPass, AgreesWithTicket, AreBac
 use crate::desk::Desk;
 use crate::pass::{Job, Pass, Ticket};
 use crate::policies::Policies;
-use crate::register::{KeptPlan, NewRegister};
+use crate::register::{NewRegister, NumberedPlan};
 use mf_calls::Script;
 use mf_core::{ChangeOutcome, Commit, Core, Turn};
 use mf_flow::TrackedCore;
@@ -168,7 +168,7 @@ impl<'s, P: Policy, J: Job, B: Ledger> Kernel<'s, P, J, B> {
     }
 
     /// Makes `plan` that of the ticket's call, from the state that the core is in during the call.
-    pub fn plan<R: Wait>(&self, rt: &R, ticket: &Ticket<J, B>, plan: &mut KeptPlan<J>)
+    pub fn plan<R: Wait>(&self, rt: &R, ticket: &Ticket<J, B>, plan: &mut NumberedPlan<J>)
         requires { ticket.now.committed ≡ false }
         ensures found { (core : CoreView) × IsCoreOf J.script core
             × AgreesWithTicket core ticket.now
@@ -184,7 +184,7 @@ impl<'s, P: Policy, J: Job, B: Ledger> Kernel<'s, P, J, B> {
     }
 
     /// The listed policies' verdict on a plan, as of `Core::walk`. It takes no lock.
-    pub fn walk(list: &Listed<'_, P>, _ticket: &Ticket<J, B>, plan: &KeptPlan<J>) -> Verdict
+    pub fn walk(list: &Listed<'_, P>, _ticket: &Ticket<J, B>, plan: &NumberedPlan<J>) -> Verdict
         ensures { result ≡ step.verdict_of list.now plan.now }
     {
         Core::walk(list, plan.plan())
@@ -197,7 +197,7 @@ impl<'s, P: Policy, J: Job, B: Ledger> Kernel<'s, P, J, B> {
         alloc: Global,
         ticket: &mut Ticket<J, B>,
         list: &Listed<'_, P>,
-        plan: &KeptPlan<J>,
+        plan: &NumberedPlan<J>,
         verdict: &Verdict,
     ) -> Result<Commit, AllocError>
         requires undone { ticket.old.committed ≡ false }

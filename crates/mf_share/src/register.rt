@@ -168,7 +168,7 @@ impl<J: Job> Register<J> {
 
 /// The plan of a thread, with its number in the register where that is known. Contracts see the plan.
 #[derive(Drop)]
-pub struct KeptPlan<J: Job> {
+pub struct NumberedPlan<J: Job> {
     plan: Plan,
     known: Option<Known<J>>,
 }
@@ -181,7 +181,7 @@ struct Known<J: Job> {
     of: PhantomData<J>,
 }
 
-impl<J: Job> Model for KeptPlan<J> {
+impl<J: Job> Model for NumberedPlan<J> {
     ghost use Rattle.std.specs.Prelude.{◌≡◌, IfSome, Some, slice_get};
     ghost use Rattle.mf_plan.specs.Planned.{Plan};
 
@@ -193,12 +193,12 @@ impl<J: Job> Model for KeptPlan<J> {
         (λ at. (at.seen.book ≡ J.register) × (slice_get at.seen.log at.number ≡ Some k.plan)) };
 }
 
-impl<J: Job> KeptPlan<J> {
+impl<J: Job> NumberedPlan<J> {
     /// The plan of a call that asks nothing and is done.
-    pub fn new() -> KeptPlan<J>
+    pub fn new() -> NumberedPlan<J>
         ensures { result ≡ proceed }
     {
-        KeptPlan {
+        NumberedPlan {
             plan: Plan::new(),
             known: None,
         }

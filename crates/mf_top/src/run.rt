@@ -21,7 +21,7 @@ use mf_flow::TrackedCore;
 use mf_io::Gate;
 use mf_list::Listed;
 use mf_policy::Policy;
-use mf_share::{Job, KeptPlan, Kernel, NewRegister, Pass, Ticket};
+use mf_share::{Job, Kernel, NewRegister, NumberedPlan, Pass, Ticket};
 use std::alloc::{AllocError, Global};
 use std::marker::Brand;
 use std::mem::forget;
@@ -46,7 +46,7 @@ pub fn run_script<P: Policy, G: Gate, R: Threads + Wait + Sync>(
 {
     let tracked = run_core(rt, alloc, script, gate, modules)?;
     let told = tell(rt, alloc, script, &tracked, telling);
-    // The program ends with this text: to let go of the history, reply by reply, would only take time.
+    // What calls this writes the text and ends: to let go of the history, reply by reply, would only take time.
     forget(tracked);
     told
 }
@@ -205,14 +205,14 @@ impl<
         requires { pass.old.out ≡ false }
         ensures { IsBack pass.old pass.new }
     {
-        let mut plan = KeptPlan::new();
+        let mut plan = NumberedPlan::new();
         while is_line(self.kernel.turn(pass)) {
             self.run_line(pass, &mut plan);
         }
     }
 
     /// Does the next line of the pass's task.
-    fn run_line(&self, pass: &mut Pass<J, B>, plan: &mut KeptPlan<J>)
+    fn run_line(&self, pass: &mut Pass<J, B>, plan: &mut NumberedPlan<J>)
         requires out { pass.old.out ≡ false }
         requires turn { IsLine (pass_turn J.script pass.old) }
         ensures { WentOn pass.old pass.new }
@@ -225,7 +225,7 @@ impl<
     }
 
     /// Does a line that is an entry.
-    fn run_entry(&self, pass: &mut Pass<J, B>, plan: &mut KeptPlan<J>)
+    fn run_entry(&self, pass: &mut Pass<J, B>, plan: &mut NumberedPlan<J>)
         requires out { pass.old.out ≡ false }
         requires turn { pass_turn J.script pass.old ≡ turn.Entry }
         ensures { WentOn pass.old pass.new }
@@ -243,7 +243,7 @@ impl<
     fn run_call(
         &self,
         ticket: &mut Ticket<J, B>,
-        plan: &mut KeptPlan<J>,
+        plan: &mut NumberedPlan<J>,
         at: Place,
     ) -> Result<(), AllocError>
         requires { ticket.old.committed ≡ false }

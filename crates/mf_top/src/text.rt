@@ -23,7 +23,7 @@ use mf_matrix::print_matrix;
 use std::alloc::{AllocError, Global};
 use std::thread::Threads;
 
-/// Room for the line of an event, in bytes. Few lines have more, and what isn't written takes no memory of the machine's.
+/// Room for the line of an event, in bytes, somewhat more than the average: so the text of most runs is never moved.
 const ROOM: usize = 24;
 
 /// What is told of a run.

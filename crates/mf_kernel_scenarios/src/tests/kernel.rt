@@ -14,7 +14,7 @@ use mf_core::{Commit, Turn};
 use mf_list::Listed;
 use mf_perform::Verdict;
 use mf_policy::Policy;
-use mf_share::{Job, KeptPlan, Kernel, NewRegister, Pass, Ticket};
+use mf_share::{Job, Kernel, NewRegister, NumberedPlan, Pass, Ticket};
 use std::alloc::{AllocError, Global};
 use std::process::Abort;
 use std::sync::Wait;
@@ -123,7 +123,7 @@ fn calls_that_meet<P: Policy, J: Job, B: Ledger, R: Wait + Abort>(
     let list = &Listed::new(kernel.fixed(), policies.list());
     let mut first = enter(rt, kernel, &mut passes[0]);
     let mut second = enter(rt, kernel, &mut passes[1]);
-    let mut early = KeptPlan::new();
+    let mut early = NumberedPlan::new();
     kernel.plan(rt, &first, &mut early);
     let early_verdict = Kernel::walk(list, &first, &early);
     let changed = commit_after_no_plan(rt, alloc, kernel, &mut second, list);
@@ -158,7 +158,7 @@ fn commit_new_plan<P: Policy, J: Job, B: Ledger, R: Wait>(
     requires { ticket.old.committed ≡ false }
     ensures { IsSameTicket ticket.old ticket.new }
 {
-    let mut plan = KeptPlan::new();
+    let mut plan = NumberedPlan::new();
     kernel.plan(rt, ticket, &mut plan);
     let verdict = Kernel::walk(list, ticket, &plan);
     kernel.commit(rt, alloc, ticket, list, &plan, &verdict)
@@ -175,8 +175,8 @@ fn commit_after_no_plan<P: Policy, J: Job, B: Ledger, R: Wait>(
     requires { ticket.old.committed ≡ false }
     ensures { IsSameTicket ticket.old ticket.new }
 {
-    kernel.plan(rt, ticket, &mut KeptPlan::new());
-    let none = KeptPlan::new();
+    kernel.plan(rt, ticket, &mut NumberedPlan::new());
+    let none = NumberedPlan::new();
     let verdict = Kernel::walk(list, ticket, &none);
     commit_twice(rt, alloc, kernel, ticket, list, &none, &verdict)
 }
@@ -188,7 +188,7 @@ fn commit_twice<P: Policy, J: Job, B: Ledger, R: Wait>(
     kernel: &Kernel<P, J, B>,
     ticket: &mut Ticket<J, B>,
     list: &Listed<'_, P>,
-    early: &KeptPlan<J>,
+    early: &NumberedPlan<J>,
     early_verdict: &Verdict,
 ) -> Result<Commit, AllocError>
     requires undone { ticket.old.committed ≡ false }

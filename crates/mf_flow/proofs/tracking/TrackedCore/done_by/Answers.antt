@@ -4,7 +4,7 @@ use Rattle.mf_policy.specs.Registration.{Entry}
 use Rattle.mf_perform.specs.Verdict.{verdict_of}
 use Rattle.mf_core.specs.CoreView.{run_state}
 use Rattle.mf_core.specs.NextFound.{IsNextOutline}
-use Rattle.mf_flow.proofs.tracking.TrackedCore.done.Goals as goal
+use Rattle.mf_flow.proofs.tracking.TrackedCore.done_by.Goals as goal
 
 -- the outline is still that of the call which was planned last
 pub is_plan_current-requires-clause-planned : goal.is_plan_current-requires-clause-planned

@@ -1,6 +1,6 @@
 //! What the lines of a task's events have in common, made once for all of them.
 ghost use Rattle.std.specs.Prelude.{◌≡◌, ◌++◌, map, IfOk, string_bytes};
-ghost use Rattle.mf_hist.specs.Titles.{titles_of};
+ghost use Rattle.mf_hist.specs.TaskLines.{task_lines};
 
 use mf_calls::Script;
 use std::alloc::{AllocError, Global};
@@ -8,7 +8,7 @@ use std::marker::Model;
 
 /// What the lines of a task's events have in common. Contracts see the texts.
 #[derive(Drop)]
-pub struct Titles {
+pub struct TaskLines {
     /// The line that begins an entry.
     enter: String,
     /// What stands in front of the number of a line that is done.
@@ -17,24 +17,24 @@ pub struct Titles {
     leave: String,
 }
 
-impl Model for Titles {
+impl Model for TaskLines {
     ghost use Rattle.std.specs.Prelude.{string_bytes};
-    ghost use Rattle.mf_hist.specs.Titles.{TaskTitles};
+    ghost use Rattle.mf_hist.specs.TaskLines.{TaskLines};
 
-    ghost Value = { TaskTitles };
+    ghost Value = { TaskLines };
 
     ghost view = { λ t. record { enter = string_bytes t.enter; done = string_bytes t.done; leave = string_bytes t.leave } };
 }
 
-impl Titles {
-    /// The titles of a task of that name.
-    pub fn new(alloc: Global, name: &str) -> Result<Titles, AllocError>
-        ensures { IfOk result (λ titles. titles ≡ titles_of name.now) }
+impl TaskLines {
+    /// Those of a task of that name.
+    pub fn new(alloc: Global, name: &str) -> Result<TaskLines, AllocError>
+        ensures { IfOk result (λ lines. lines ≡ task_lines name.now) }
     {
         let enter = joined(alloc, "enter ", name, "\n")?;
         let done = joined(alloc, "done ", name, " ")?;
         let leave = joined(alloc, "leave ", name, "\n")?;
-        Ok(Titles { enter, done, leave })
+        Ok(TaskLines { enter, done, leave })
     }
 
     /// The line that begins an entry.
@@ -68,14 +68,14 @@ fn joined(alloc: Global, front: &str, name: &str, back: &str) -> Result<String, 
     Ok(text)
 }
 
-/// The titles of each task.
-pub fn titles_of(alloc: Global, script: &Script) -> Result<Vec<Titles>, AllocError>
-    ensures { IfOk result (λ titles. titles.items ≡ map (λ task. titles_of task.name)
+/// Those of each task.
+pub fn lines_of_tasks(alloc: Global, script: &Script) -> Result<Vec<TaskLines>, AllocError>
+    ensures { IfOk result (λ lines. lines.items ≡ map (λ task. task_lines task.name)
         script.now.tasks) }
 {
-    let mut titles = Vec::new(alloc);
+    let mut lines = Vec::new(alloc);
     for task in script.tasks.as_slice() {
-        titles.push(Titles::new(alloc, task.name.as_str())?)?;
+        lines.push(TaskLines::new(alloc, task.name.as_str())?)?;
     }
-    Ok(titles)
+    Ok(lines)
 }
