@@ -1,14 +1,9 @@
 //! A core with the sources along its history, where what each call moves is noted as the call is committed, and with the outline of the
 //! call that was planned last.
-ghost use Rattle.std.specs.Prelude.{◌≡◌, ◌+◌, ◌<◌, ◌⊎◌, ◌↔◌, [], false, true, length, map, IfOk, IsOk, IsTrue, OnErr, OnOk, Some};
-ghost use Rattle.std.specs.List.{AllByRecursion};
-ghost use Rattle.std.specs.Option.{option_zip};
-ghost use Rattle.mf_calls.specs.WellFormed.{IsFormedLine, IsName};
+ghost use Rattle.std.specs.Prelude.{◌≡◌, ◌+◌, ◌<◌, ◌⊎◌, ◌↔◌, [], false, true, length, IfOk, IsOk, IsTrue, OnErr, OnOk, Some};
 ghost use Rattle.mf_plan.specs.declared.plan.Tail.TheVariants.{Do};
 ghost use Rattle.mf_plan.specs.declared.reply.Payload.TheVariants as payload;
 ghost use Rattle.mf_plan.specs.declared.reply.Reply.{Reply};
-ghost use Rattle.mf_plan.specs.Outline.{item_of};
-ghost use Rattle.mf_perform.specs.Passed.{passed};
 ghost use Rattle.mf_perform.specs.Refused.{is_ok};
 ghost use Rattle.mf_perform.specs.Reply.{reply_to};
 ghost use Rattle.mf_perform.specs.Verdict.{verdict_of};
@@ -26,16 +21,14 @@ ghost use Rattle.mf_core.specs.Progress.{progress_at};
 ghost use Rattle.mf_flow.specs.Laws.{AreInOrder};
 ghost use Rattle.mf_flow.specs.Rows as spec;
 ghost use Rattle.mf_flow.specs.Table.{table_of};
-ghost use Rattle.mf_flow.specs.Transfers.{descriptor_of};
 
-use crate::following::{Flow, move_passed, settle_each};
+use crate::following::Flow;
+use crate::noting::{note_moves, note_rest};
 use crate::table::{Table, list_flows, opening_flows, sourced, sources};
-use mf_calls::Line;
 use mf_core::{ChangeOutcome, Commit, Core, KeptReply};
 use mf_list::{Catalogue, Fixed, Listed, PolicyList};
-use mf_objects::Objects;
 use mf_perform::Verdict;
-use mf_plan::{Found, Outline, Plan, State};
+use mf_plan::{Outline, Plan};
 use mf_policy::Policy;
 use std::alloc::{AllocError, Global};
 use std::marker::Model;
@@ -374,50 +367,4 @@ fn commit(
         flows,
     );
     Ok(())
-}
-
-/// Notes what the checks of a call that passed move. False where nothing is tracked, or memory runs out.
-fn note_moves(
-    alloc: Global,
-    state: &State,
-    task: &str,
-    line: &Line,
-    outline: &Outline,
-    reply: &KeptReply,
-    is_tracked: bool,
-    flows: &mut Vec<Flow>,
-) -> bool
-    requires task { IsName task.now }
-    requires line { IsFormedLine line.now }
-    requires slots { IsTrue is_tracked → AllByRecursion spec.HasLabelSlot flows.old.items }
-    ensures { IsTrue result → IsTrue is_tracked × spec.EachBecomes (λ f new. new
-        ≡ spec.flow_moved state.now (descriptor_of state.now task.now line.now)
-        (map (item_of state.now.objects) (passed reply.now outline.now.checks)) f)
-        flows.old.items flows.new.items }
-{
-    is_tracked && move_passed(alloc, state, task, line, outline, reply, flows).is_ok()
-}
-
-/// Notes what is left of a call, where what it moves was noted. False where nothing is tracked, or memory runs out: the sets are
-/// freed then, since they are those of no history any more.
-fn note_rest(
-    alloc: Global,
-    next: u32,
-    objects: &Objects,
-    found: &Found,
-    is_done: bool,
-    is_noted: bool,
-    flows: &mut Vec<Flow>,
-) -> bool
-    requires { IsTrue is_noted → AllByRecursion spec.HasLabelSlot flows.old.items }
-    ensures { IsTrue result → IsTrue is_noted × spec.EachBecomes (λ f new. spec.IsKept objects.now
-        (spec.flow_settled next objects.now found.now.caller
-        (spec.where_done is_done (option_zip found.now.target found.now.request)) f) new)
-        flows.old.items flows.new.items }
-{
-    if is_noted && settle_each(alloc, next, objects, found, is_done, flows).is_ok() {
-        return true;
-    }
-    *flows = Vec::new(alloc);
-    false
 }
