@@ -98,7 +98,7 @@ fn are_components(word: &str) -> bool
     is_component(rest)
 }
 
-/// The path that the word spells, whose text after its first slash this is. The word is copied whole, since it is what a path is
+/// The path that the word spells; `behind` is what stands after its first slash. The word is copied whole, since it is what a path is
 /// kept as.
 fn components_of(alloc: Global, word: &str, behind: &str) -> Result<Path, Refusal>
     requires { word.now ≡ byte "/" ∷ behind.now }

@@ -113,7 +113,7 @@ fn are_plain(line: &[u8]) -> bool
     line.iter().all(|byte| is_line_byte(*byte))
 }
 
-/// Whether each byte may stand in a line or ends one. Each is looked at, whatever the others are: so many are at once.
+/// Whether each byte may stand in a line or ends one. No byte ends the loop early, so that many are looked at at once.
 fn is_plain_text(text: &[u8]) -> bool
     ensures { result ≡ list_all (λ b. b == byte "\n" || is_line_byte b) text.now }
 {

@@ -11,7 +11,7 @@ ghost use Rattle.mf_core.specs.declared.progress.Turn.TheVariants as turn;
 ghost use Rattle.mf_core.specs.LegalHistory.{next_reply};
 ghost use Rattle.mf_core.specs.Next.{next_plan};
 ghost use Rattle.mf_core.specs.Policies.{StaysWhileWaiting, static_of};
-ghost use Rattle.mf_core.specs.CoreView.{CoreView, with_next, specs_of, run_state, open_of, done_of, progress_of, AdvancesOn, Changes, Commits};
+ghost use Rattle.mf_core.specs.CoreView.{CoreView, with_next, specs_of, run_state, open_of, done_of, progress_of, turn_at, AdvancesOn, Changes, Commits};
 ghost use Rattle.mf_share.specs.Register.{IsNoted};
 ghost use Rattle.mf_share.specs.Passes.{AgreesWithPass, AgreesWithTicket, IsCoreOf, pass_changed, pass_left, pass_turn, ticket_after, ticket_for};
 

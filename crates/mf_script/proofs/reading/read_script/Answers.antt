@@ -8,7 +8,7 @@ pub loop-line-init : goal.loop-line-init
 loop-line-init c = record {
   so_far = start c.new.result c.new-2.result c.new-3.result c.new-4.result c.args.bytes.now _ c.new.ensures c.new-2.ensures c.new-3.ensures c.new-4.ensures c.of-lines.ensures.lines;
   formed = starts _ (blank_is c.new.result c.new-2.result c.new-3.result c.new-4.result c.new.ensures c.new-2.ensures c.new-3.ensures c.new-4.ensures);
-  plain = λ is. rw c.of-lines.ensures.lines (lines_plain c.args.bytes.now (sym c.is_plain_text.ensures ∙ is));
+  plain = λ is. rw c.of-lines.ensures.lines (lines_plain c.args.bytes.now (sym c.is_plain_text-plain.ensures ∙ is));
   number = omega (arith, c.of-lines.ensures.few);
 }
 

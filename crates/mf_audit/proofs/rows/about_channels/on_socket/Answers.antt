@@ -14,7 +14,7 @@ returns-in_err-ends-in-Send c =
 pub returns-in_ok-ends-in-Send : goal.returns-in_ok-ends-in-Send
 returns-in_ok-ends-in-Send c =
     found c.args.kernel.now c.args._task.now c.args.me c.args.call.now (call.Send c.in-Send.from c.get.result.now c.as_slice.result.now) c.in_ok-ends-in-Send.ends c.args.walk.now _ _ _
-    (c.in-Send.is ∙ ap (λ to. call.Send c.in-Send.from to c.in-Send.text) (sym c.get.ensures) ∙ ap (call.Send c.in-Send.from c.get.result.now) (sym (c.as_slice.ensures.value ∙ c.get-2.ensures)))
+    (c.in-Send.is ∙ ap (λ to. call.Send c.in-Send.from to c.in-Send.text) (sym c.get.ensures) ∙ ap (call.Send c.in-Send.from c.get.result.now) (sym (c.as_slice.ensures.value ∙ c.get-in-Send.ensures)))
     (c.in_ok-ends-in-Send.ensures.way)
     (c.send.ensures c.args._task.now c.in-Send.from c.get.result.now)
 

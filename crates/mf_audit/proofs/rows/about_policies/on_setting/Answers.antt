@@ -23,8 +23,8 @@ returns-in_err-module-in-UgidfwAdd c walk =
 pub returns-in_ok-module-in-UgidfwAdd : goal.returns-in_ok-module-in-UgidfwAdd
 returns-in_ok-module-in-UgidfwAdd c walk =
     let m = c.in_ok-module-in-UgidfwAdd.«module» in
-    let rule = c.get-in-UgidfwAdd.result.now in
-    found c.args.kernel.now c.args._task.now c.args.me c.args.call.now (call.UgidfwAdd rule) (m, RuleAdd rule) walk _ _ _ (c.in-UgidfwAdd.is ∙ ap call.UgidfwAdd (sym c.get-in-UgidfwAdd.ensures))
+    let rule = c.get.result.now in
+    found c.args.kernel.now c.args._task.now c.args.me c.args.call.now (call.UgidfwAdd rule) (m, RuleAdd rule) walk _ _ _ (c.in-UgidfwAdd.is ∙ ap call.UgidfwAdd (sym c.get.ensures))
     (setting_there c.args.kernel.now c.args.me false (Some modules.Bsdextended) (Some (RuleAdd rule)) (Ok m) walk c.in_ok-module-in-UgidfwAdd.ensures)
     (c.add.ensures c.args._task.now walk)
 
