@@ -1,0 +1,9 @@
+mod Leads
+mod Done
+mod Rows
+mod Covered
+mod Walks
+mod Shown
+mod Ends
+mod Handing
+mod TwoCalls
