@@ -46,13 +46,7 @@ impl Policy for Biba {
     fn same(&self, other: &Spec) -> bool {
         match other {
             Spec::Biba { revocation } => self.revocation == *revocation,
-            Spec::Mls
-            | Spec::Lomac
-            | Spec::Partition
-            | Spec::Bsdextended { .. }
-            | Spec::Priority
-            | Spec::Seeotheruids { .. }
-            | Spec::Portacl { .. } => false,
+            _ => false,
         }
     }
 

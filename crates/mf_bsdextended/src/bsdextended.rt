@@ -56,13 +56,7 @@ impl Policy for Bsdextended {
             Spec::Bsdextended { rules, first_match } => {
                 self.first_match == *first_match && self.rules.same(rules)
             }
-            Spec::Biba { .. }
-            | Spec::Mls
-            | Spec::Lomac
-            | Spec::Partition
-            | Spec::Priority
-            | Spec::Seeotheruids { .. }
-            | Spec::Portacl { .. } => false,
+            _ => false,
         }
     }
 

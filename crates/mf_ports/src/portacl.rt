@@ -84,13 +84,7 @@ impl Policy for Portacl {
                     && self.autoport == *autoport
                     && same_port_rules(&self.rules, rules)
             }
-            Spec::Biba { .. }
-            | Spec::Mls
-            | Spec::Lomac
-            | Spec::Partition
-            | Spec::Bsdextended { .. }
-            | Spec::Priority
-            | Spec::Seeotheruids { .. } => false,
+            _ => false,
         }
     }
 

@@ -78,13 +78,7 @@ impl Policy for Seeotheruids {
                     && self.gid == *gid
                     && self.suser == *suser
             }
-            Spec::Biba { .. }
-            | Spec::Mls
-            | Spec::Lomac
-            | Spec::Partition
-            | Spec::Bsdextended { .. }
-            | Spec::Priority
-            | Spec::Portacl { .. } => false,
+            _ => false,
         }
     }
 
