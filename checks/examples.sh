@@ -3,8 +3,9 @@
 # there is one; what `matrix` and `chains` write behind that with the .matrix and the .chains file, where there are such; and the replies with the
 # comments `#=` in it, by tools/expect. Each script has an .out file or such comments. A script with steps is run by them, and its text is always the
 # same. Without them the text of a script in which several tasks call depends on their order: it is run several times, and of each run is compared what
-# holds in every order. A line for each failure, then a count.
+# holds in every order. Then examples/README.md lists all of them, in their order, and no other. A line for each failure, then a count.
 cd "$(dirname "$0")/.." || exit 1
+./macsim --proved run </dev/null >/dev/null || exit 1
 printed=$(mktemp) && told=$(mktemp) || exit 1
 trap 'rm -f "$printed" "$told"' EXIT
 expects='^[[:blank:]]*#='
@@ -56,7 +57,7 @@ is_settled() {
 is_as_expected() {
     word=run
     ! has_steps "$1" || word=step
-    ./macsim "$word" <"$1" >"$printed" || return 1
+    ./macsim --proved "$word" <"$1" >"$printed" || return 1
     if is_settled "$1"; then
         cmp -s "$printed" "${1%.macsim}.out"
     else
@@ -74,7 +75,7 @@ goes_on() {
     for word in matrix chains; do
         further=${1%.macsim}.$word
         [ ! -e "$further" ] || cat "${1%.macsim}.out" "$further" >"$told"
-        [ ! -e "$further" ] || ./macsim "$word" <"$1" | cmp -s - "$told" || return 1
+        [ ! -e "$further" ] || ./macsim --proved "$word" <"$1" | cmp -s - "$told" || return 1
     done
 }
 
@@ -106,5 +107,18 @@ for script in examples/*.macsim; do
         echo "$script: $why"
     fi
 done
+
+# The list has a line for each example.
+listed() {
+    sed -n 's/^- \[\([^]]*\)\](\1\.macsim): ..*/examples\/\1.macsim/p' examples/README.md
+}
+
+ls examples/*.macsim >"$printed"
+listed >"$told"
+if ! cmp -s "$told" "$printed"; then
+    failed=$((failed + 1))
+    echo "examples/README.md lists other examples than there are:"
+    diff "$told" "$printed"
+fi
 echo "$passed passed, $failed failed"
 [ "$failed" -eq 0 ]
