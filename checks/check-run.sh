@@ -3,7 +3,6 @@
 # left out, doubled or exchanged with the next: it says `yes` to the first, and of the others what the steps of the text say, which `macsim step` takes:
 # `no` with the line where they part from it, or `yes` where it is still that of a run. Then tools/check-run by its words. A line for each failure, then a count.
 . "$(dirname "$0")/counting"
-./macsim run </dev/null >"$folder/history" 2>&1
 python3 -B checks/checking.py
 count "$?" "check-run: texts of runs"
 

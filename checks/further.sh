@@ -4,6 +4,6 @@
 # `checks/further.sh --all` over 2,000; at the limits of chains and one past each, and of the greatest matrix. A line for each failure, then the counts.
 cd "$(dirname "$0")/.." || exit 1
 
-# The program is built before the first run that counts.
-./macsim run </dev/null >/dev/null 2>&1
+# The proved program is run, and no other.
+./macsim --proved run </dev/null >/dev/null || exit 1
 exec python3 -B checks/further.py "$@"

@@ -6,8 +6,8 @@ cd "$(dirname "$0")/.." || exit 1
 folder=$(mktemp -d) || exit 1
 trap 'rm -rf "$folder"' EXIT
 
-# Both programs are built before the first run that counts.
-./macsim run </dev/null >/dev/null 2>&1
+# The proved program is run, and no other; that which prints the load is built before the first run that counts.
+./macsim --proved run </dev/null >/dev/null || exit 1
 printer=crates/macsim_load/out/macsim_load
 [ -x "$printer" ] || (cd crates/macsim_load && rt run -- 1 1) >"$folder/log" 2>&1 || {
   cat "$folder/log"
@@ -22,9 +22,9 @@ replies() {
 failed=0
 for load in "1 1" "3 2" "64 4" "200 16"; do
   # shellcheck disable=SC2086
-  "$printer" $load >"$folder/script" && ./macsim run <"$folder/script" | replies >"$folder/found"
+  "$printer" $load >"$folder/script" && ./macsim --proved run <"$folder/script" | replies >"$folder/found"
   # shellcheck disable=SC2086
-  ./macsim gen $load | tail -n +2 | sort >"$folder/wanted"
+  ./macsim --proved gen $load | tail -n +2 | sort >"$folder/wanted"
   if ! cmp -s "$folder/found" "$folder/wanted" || ! [ -s "$folder/wanted" ]; then
     echo "loads: gen $load: the script of the load is replied to otherwise"
     diff "$folder/wanted" "$folder/found"

@@ -4,6 +4,6 @@
 # counts.
 cd "$(dirname "$0")/.." || exit 1
 
-# The program is built before the first run that counts.
-./macsim run </dev/null >/dev/null 2>&1
+# The proved program is run, and no other.
+./macsim --proved run </dev/null >/dev/null || exit 1
 exec python3 -B checks/mutations.py "$@"

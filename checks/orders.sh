@@ -19,16 +19,16 @@ calls() {
 }
 
 goes_task_by_task() {
-    awk -f examples/in-order.awk "$1" >"$folder/stepped" && ./macsim step <"$folder/stepped" >"$folder/history" || return 1
+    awk -f examples/in-order.awk "$1" >"$folder/stepped" && ./macsim --proved step <"$folder/stepped" >"$folder/history" || return 1
     calls "$1" >"$folder/calls"
     replies "$folder/history" | awk '{ print $2, $3 }' | cmp -s - "$folder/calls"
 }
 
 comes_again() {
-    ./macsim run <"$1" >"$folder/history" || return 1
+    ./macsim --proved run <"$1" >"$folder/history" || return 1
     replies "$folder/history" >"$folder/wanted"
     order=$(awk '{ print $2 }' "$folder/wanted")
-    awk -v order="$(echo $order)" -f examples/in-order.awk "$1" >"$folder/stepped" && ./macsim step <"$folder/stepped" >"$folder/history" || return 1
+    awk -v order="$(echo $order)" -f examples/in-order.awk "$1" >"$folder/stepped" && ./macsim --proved step <"$folder/stepped" >"$folder/history" || return 1
     replies "$folder/history" | cmp -s - "$folder/wanted"
 }
 

@@ -59,9 +59,6 @@ check_usage() {
     check "words: $*" ends 2 "$script" "$folder/usage" "$@"
 }
 
-# The program is built before the first run that counts.
-./macsim run </dev/null >"$folder/printed" 2>&1
-
 text usage 'macsim: usage: run | step | gen N T'
 text unknown_word 'macsim: script line 1 fault 2 UnknownWord'
 text no_module 'macsim: script line 1 fault 12 BootRefused ENOENT'

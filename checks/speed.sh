@@ -15,6 +15,6 @@ command -v valgrind >/dev/null || {
   echo "speed: valgrind isn't here"
   exit 2
 }
-# The program is built before the first run that counts.
-./macsim run </dev/null >/dev/null 2>&1
+# The proved program is run, and no other.
+./macsim --proved run </dev/null >/dev/null || exit 1
 exec python3 -B checks/speed.py crates/macsim/out/macsim "$@"

@@ -1,11 +1,9 @@
 #!/bin/sh
 # Runs the script ./macsim, which runs the program: its status and standard output are the program's, and on the standard error there is a
-# line where the status isn't 0. What it does where the program has to be built is tried in a folder of its own, with another program in
-# the place of `rt`. A line for each failure, then a count.
+# line where the status isn't 0. Then its own words: help, the version, and a file behind the program's words; and what it says at a terminal.
+# What it does where the program has to be built is for checks/building.sh. A line for each failure, then a count.
 . "$(dirname "$0")/counting"
 script=examples/01-plainest-denial.macsim
-copy=$folder/repository
-new=$copy/crates/macsim/out/macsim
 
 # Whether a run over this input with these words ends with the status and tells the line.
 tells() {
@@ -20,61 +18,62 @@ fails_to_write() {
     [ "$?" -eq 5 ] && [ "$(cat "$folder/told")" = "macsim: status 5, the output couldn't be written: docs/ERRORS.md, Input, output and memory" ]
 }
 
-# A folder like the repository, with an `rt` that does as this text says. Where a program is wanted, it is older than the sources.
-make_copy() {
-    rm -rf "$copy" "$folder/bin"
-    mkdir -p "$copy/crates/macsim/src" "$copy/crates/macsim/out" "$folder/bin"
-    cp macsim "$copy"
-    touch "$copy/crates.txt" "$copy/crates/macsim/src/main.rt"
-    printf '#!/bin/sh\n%s\n' "$1" >"$folder/bin/rt"
-    chmod +x "$folder/bin/rt"
+# Whether the words are answered with 0, and nothing is told.
+answers() {
+    ./macsim "$@" </dev/null >"$folder/printed" 2>"$folder/told" && [ ! -s "$folder/told" ]
 }
 
-add_old_program() {
-    printf '#!/bin/sh\necho old\n' >"$new"
-    chmod +x "$new"
-    touch -d '2000-01-01' "$new" "$copy/crates/macsim/out/built"
-}
-
-# Runs the copy, with these folders for programs; whether it ends with the status and prints the text.
-runs_copy() {
-    PATH=$1 "$copy/macsim" run >"$folder/printed" 2>"$folder/told"
-    [ "$?" -eq "$2" ] && [ "$(cat "$folder/printed")" = "$3" ]
-}
-
-told() {
-    grep -qF "$1" "$folder/told"
-}
-
-# Whether the copy tells who asks for help the usage and the manual, and builds nothing.
+# Whether help has a line for each of the program's words and each tool, and tells where the manual is.
 helps() {
-    PATH=$1 "$copy/macsim" --help >"$folder/printed" 2>"$folder/told"
-    [ "$?" -eq 2 ] && ./macsim --help 2>/dev/null | cmp -s - "$folder/printed" && [ "$(cat "$folder/told")" = "$begin" ] && [ ! -e "$new" ]
+    answers "$1" || return 1
+    for word in run matrix chains step check 'gen N T' --unproved --proved --path --version; do
+        grep -qE "^ *(\./macsim )?$word " "$folder/printed" || return 1
+    done
+    for tool in tools/*; do
+        [ -d "$tool" ] || [ ! -x "$tool" ] || grep -q "^ *$tool " "$folder/printed" || return 1
+    done
+    grep -qF docs/MANUAL.md "$folder/printed"
 }
 
-keeps_the_old() {
-    add_old_program
-    runs_copy "$1" 1 '' && told 'is still in' && [ "$("$new")" = old ]
+has_version() {
+    commit=$([ -e .git ] && git describe --always --dirty --abbrev=12 --exclude='*' 2>"$folder/other")
+    answers --version && printf '%s\n%s\nproved: %s\n' "macsim ${commit:-of no commit that is known here}" \
+        "$(rt version)" "$PWD/crates/macsim/out/macsim" | cmp -s - "$folder/printed"
 }
 
-# Whether the program is built where it isn't there, and is there for the next run, which tells nothing.
-builds_once() {
-    runs_copy "$folder/bin:$PATH" 0 new && told 'half a minute' && told "$copy/crates/macsim/out/built.log" &&
-        runs_copy "$folder/bin:$PATH" 0 new && [ ! -s "$folder/told" ]
+# Whether a run over a file is that over the standard input, the words in front as they are.
+opens() {
+    ./macsim "$1" "$2" </dev/null >"$folder/printed" 2>"$folder/told"
+    status=$?
+    ./macsim "$1" <"$2" 2>"$folder/other" | cmp -s - "$folder/printed" && cmp -s "$folder/told" "$folder/other" && [ "$status" -eq "$3" ]
 }
 
-# The program is built before the first run that counts.
-./macsim run </dev/null >"$folder/printed" 2>&1
+opens_from_elsewhere() {
+    (cd examples && ../macsim run "${script#examples/}" </dev/null) >"$folder/printed" && cmp -s "$folder/printed" "${script%.macsim}.out"
+}
+
+# Whether a file that can't be read is told with 4, and nothing is printed.
+cannot_open() {
+    ./macsim "$1" "$2" <"$script" >"$folder/printed" 2>"$folder/told"
+    [ "$?" -eq 4 ] && [ "$(cat "$folder/told")" = "macsim: $2: can't be read" ] && [ ! -s "$folder/printed" ]
+}
+
+# Whether a terminal shows the text, where these words are given, and ends with 0.
+shows() {
+    text=$1
+    shift
+    python3 -B checks/terminal.py ./macsim "$@" >"$folder/shown" && [ "$(tr -d '\r' <"$folder/shown")" = "$text" ]
+}
 
 begin='macsim: the manual is docs/MANUAL.md; begin with: ./macsim run < examples/01-plainest-denial.macsim'
+no_words='macsim: status 2, these words are none of its own: docs/ERRORS.md, Words'
 printf 'foo\n' >"$folder/bad"
 { cat "$script"; printf 'steps\nplan t\nend\n'; } >"$folder/refused"
+{ printf 'script %d\n' "$(wc -c <"$script")"; cat "$script" "${script%.macsim}.out"; } >"$folder/checked"
 head -c 1048577 /dev/zero >"$folder/long"
 check 'no words' tells 2 "$script" "$begin"
-check '-h' tells 2 "$script" "$begin" -h
-check '--help' tells 2 "$script" "$begin" --help
 check 'status 0' tells 0 "$script" '' run
-check 'status 2' tells 2 "$script" 'macsim: status 2, these words are none of its own: docs/ERRORS.md, Words' walk
+check 'status 2' tells 2 "$script" "$no_words" walk
 check 'status 3' tells 3 "$folder/bad" 'macsim: status 3, the input is no script: docs/ERRORS.md, Scripts' run
 check 'status 4' tells 4 . "macsim: status 4, the input couldn't be read: docs/ERRORS.md, Input, output and memory" run
 check 'status 5' fails_to_write
@@ -83,21 +82,23 @@ PYTHONPATH=checks python3 -B -c 'import limit_scripts; print(limit_scripts.steps
 check 'status 11' tells 11 "$folder/many" 'macsim: status 11, there are too many chains: docs/ERRORS.md, Too many chains' chains
 check 'status 7' tells 7 "$folder/refused" 'macsim: status 7, a step was refused: docs/ERRORS.md, Steps' step
 
-builder='printf "#!/bin/sh\necho new\n" >out/macsim; chmod +x out/macsim; echo "rt: running out/macsim"'
-make_copy 'exit 1'
-rm "$folder/bin/rt"
-mkdir "$folder/tools"
-for tool in dirname readlink find head; do ln -s "$(command -v $tool)" "$folder/tools/$tool"; done
-check 'no rt, and no program' runs_copy "$folder/tools" 1 ''
-check 'help without a program' helps "$folder/tools"
-check 'no rt, and an old program' keeps_the_old "$folder/tools"
-make_copy 'echo "a proof failed"; exit 1'
-check 'a build that fails' keeps_the_old "$folder/bin:$PATH"
-check 'the end of its log' told 'a proof failed'
-make_copy "$builder"
-check 'a build' builds_once
-make_copy "$builder"
-add_old_program
-check 'a build in place of an old program' builds_once
-
+for word in --help -h help; do check "$word" helps "$word"; done
+check 'help and more' tells 2 "$script" "$no_words" help run
+check '--version' has_version
+check '--path' answers --path
+check 'what --path tells' test "$(cat "$folder/printed")" = "$PWD/crates/macsim/out/macsim"
+for word in run matrix chains; do check "a file behind $word" opens "$word" "$script" 0; done
+check 'a file behind step' opens step examples/39-rules-first.macsim 0
+check 'a file behind check' opens check "$folder/checked" 0
+check 'a file that is no script' opens run "$folder/bad" 3
+check 'a file of another folder' opens_from_elsewhere
+check 'a file behind --proved' answers --proved run "$script"
+check 'a file behind gen' tells 2 "$script" "$no_words" gen 1 1 "$script"
+check 'two files' tells 2 "$script" "$no_words" run "$script" "$script"
+check 'no file' cannot_open run "$folder/nothing"
+check 'no file, where a word stands' cannot_open run matrix
+check 'a folder' cannot_open step .
+check 'at a terminal' shows 'macsim: reading the standard input, up to Ctrl-D; a file is read by ./macsim run FILE' run
+check 'a file at a terminal' shows '' run "$script"
+check 'gen at a terminal' shows '' gen 1 1
 print_count
