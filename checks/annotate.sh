@@ -1,8 +1,9 @@
 #!/bin/sh
 # Runs each script of examples/, and holds tools/annotate to what is printed: without what it adds its text is the history, and for each denial
 # the number and the operation of the last of the checks that it derives are those of the reply, and a cause of the manual stands below.
-# Then the whole text of one example, that a subject is shown as it was lowered, and by its ids where the policy goes by these, and that it
-# says what is wrong with an input, and prints nothing of it. A line for each failure, then a count.
+# Where mac_lomac lowers, the elements that it tells are those that `getpmac` shows before and behind each call. Then the whole text of one example, that
+# a subject is shown as it was lowered, and by its ids where the policy goes by these, and that it says what is wrong with an input, and prints
+# nothing of it. A line for each failure, then a count.
 . "$(dirname "$0")/counting"
 
 # Whether below each denial stand its checks, as many as its number says and the last with its operation, and a cause. Prints how many.
@@ -54,6 +55,48 @@ for script in examples/*.macsim; do
     count $? "$script: a line isn't as in the history, or a denial isn't derived"
 done
 
+# Prints a script in which each process shows its label behind each of its calls.
+showing() {
+    awk '
+        { print }
+        $1 == "task" { open = 1; next }
+        $1 == "end" { open = 0 }
+        open && NF && $1 !~ /^#/ && $NF != "exit" { print ($1 ~ /^@/ ? $1 " " : "") "getpmac" }' "$1"
+}
+
+# Whether each process goes from the element that it showed last to the one that it shows, by the lowerings between alone. Prints how many these are.
+lowers_as_shown() {
+    awk '
+        /^done/ {
+            call = $0
+            sub(/.*# line [0-9]*: /, "", call)
+            process = $2 (call ~ /^@/ ? substr(call, 1, index(call, " ")) : "")
+            last = split(call, words, " ")
+            if (call ~ /setpmac /) known[process] = ""
+            if (call ~ /fork /) known[$2 "@" words[last] " "] = ""
+        }
+        /^    lowered: / {
+            if (known[process] != "" && known[process] != $6) { print "lowered from " $6 ": " call; bad = 1 }
+            known[process] = $8
+            count++
+        }
+        /^done/ && call ~ /getpmac$/ && match($6, /lomac\/[a-z0-9]*/) {
+            shown = substr($6, RSTART, RLENGTH)
+            if (known[process] != "" && known[process] != shown) { print "not told: " known[process] " to " shown; bad = 1 }
+            known[process] = shown
+        }
+        END { print count + 0; exit bad || !count }'
+}
+
+# Whether what lowers in an example is told.
+tells_what_lowers() {
+    showing "$1" >"$folder/showing" && awk -f examples/in-order.awk "$folder/showing" >"$folder/stepped" && run "$folder/stepped" || return 1
+    tools/annotate "$folder/stepped" "$folder/history" >"$folder/told" && lowers_as_shown <"$folder/told" >"$folder/count"
+}
+for script in $(grep -l '^boot mac_lomac' examples/*.macsim); do
+    check "what lowers in $script" tells_what_lowers "$script"
+done
+
 # Whether the first denial of an example is explained by the lines on the standard input.
 explains_the_first() {
     run "$1"
@@ -64,6 +107,7 @@ explains_the_first() {
 # The subject is shown as the check found it: lowered by the look-ups before.
 explains_the_first examples/45-lowered-and-denied.macsim <<'END'
 done t 2 no EACCES vnode_open_write mac_lomac 3    # line 9: write /pub/f x
+    lowered: check 2 vnode_lookup, from lomac/9 to lomac/5 by vnode:/pub
     checks: 1 vnode_lookup vnode:/, 2 vnode_lookup vnode:/pub, 3 vnode_open_write vnode:/pub/f
     subject: proc:t lomac/5
     object: vnode:/pub/f lomac/9
@@ -171,6 +215,11 @@ END
 tools/annotate --part "$script" "$folder/history" >"$folder/told" &&
     awk '/^done/ { if (open) bad = 1; open = 1 } /^    usual cause: ./ { open = 0 } END { exit bad || open }' "$folder/told"
 count $? "an operation has no row in the manual"
+
+# Labels of mac_lomac have no compartments.
+echo 'done t 1 no EACCES socket_deliver mac_lomac 1' | tools/annotate --part "$script" - >"$folder/told" &&
+    grep -q '^    usual cause: ' "$folder/told" && ! grep -q compartments "$folder/told"
+count $? "compartments are told of where mac_lomac decided"
 
 echo "$denials denials"
 [ "$denials" -gt 0 ] && print_count

@@ -5,7 +5,7 @@ history through its script, and on nothing that the program prints of the matrix
 from collections import namedtuple
 
 from chain_rules import Followed
-from macsim_labels import BIBA, EQUAL, HIGH, LOMAC, LOW, MLS, PARTITION, element_in
+from macsim_labels import BIBA, LOMAC, MLS, PARTITION, dominates, element_in
 from macsim_text import number_of
 
 LETTERS = {
@@ -33,15 +33,6 @@ RULES, USERS = "mac_bsdextended", "mac_seeotheruids"
 SETUID, SETGID = 0o4000, 0o2000
 # What a side of a rule looks at.
 Seen = namedtuple("Seen", "uid groups file subject")
-
-
-def dominates(above, below):
-    """The table of dominance."""
-    if EQUAL in (above, below) or below == LOW or above == HIGH:
-        return True
-    if above == LOW or below == HIGH:
-        return False
-    return above[1] >= below[1] and set(above[2:]) >= set(below[2:])
 
 
 # Rules about files

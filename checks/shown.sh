@@ -1,8 +1,9 @@
 #!/bin/sh
 # Holds the tools that show what `matrix` and `chains` print to what they print, over all examples whose text is always the same: the table of tools/matrix has each
 # line of the matrix; below each chain of tools/chains stand its words, each told by things that are there and by a line of the script, and the last with the
-# thing that it leads to. Then what they tell of two examples, the pictures in docs/, two matrices and a module that is unloaded, and that they
-# say what is wrong with an input, and print nothing of it. A line for each failure, then a count.
+# thing that it leads to. With mode bits the letters are those of the matrix, but for their marks. Then what they tell of two examples, of mode bits, the
+# pictures in docs/, two matrices and a module that is unloaded, and that they say what is wrong with an input, and print nothing of it. A line for each
+# failure, then a count.
 . "$(dirname "$0")/counting"
 
 # The lines of a matrix, from the table: the titles of the processes are above the columns.
@@ -13,11 +14,21 @@ matrix_of_table() {
         NF { for (place = 2; place <= NF; place++) print "matrix proc:" name[place - 1], $1, $place }'
 }
 
+# The lines of a matrix from the table with mode bits, with the marks and without.
+with_modes() {
+    tools/matrix --modes "$1" "$2" | sed '/^R, W, X: /d' | matrix_of_table
+}
+
+unmarked() {
+    with_modes "$1" "$2" | awk '{ sub("/$", "", $4); print $1, $2, $3, tolower($4) }'
+}
+
 tells_the_matrix() {
-    ./macsim matrix <"$1" >"$folder/text" && grep '^matrix ' "$folder/text" | sort >"$folder/wanted" || return 0
+    ./macsim --proved matrix <"$1" >"$folder/text" && grep '^matrix ' "$folder/text" | sort >"$folder/wanted" || return 0
     [ -s "$folder/wanted" ] || return 0
     tools/matrix "$folder/text" | matrix_of_table | sort | cmp -s - "$folder/wanted" || return 1
     tools/matrix --width 1 "$folder/text" | matrix_of_table | sort | cmp -s - "$folder/wanted" || return 1
+    unmarked "$1" "$folder/text" | sort | cmp -s - "$folder/wanted" || return 1
     matrices=$((matrices + $(wc -l <"$folder/wanted")))
 }
 
@@ -31,7 +42,7 @@ has_its_words() {
 }
 
 tells_the_chains() {
-    ./macsim chains <"$1" >"$folder/text" || return 1
+    ./macsim --proved chains <"$1" >"$folder/text" || return 1
     grep '^chain ' "$folder/text" >"$folder/wanted" || return 0
     tools/chains "$1" "$folder/text" >"$folder/told" && grep '^chain ' "$folder/told" | cmp -s - "$folder/wanted" || return 1
     has_its_words <"$folder/told" || return 1
@@ -61,7 +72,7 @@ for script in examples/*.macsim; do
 done
 
 key=examples/54-how-the-key-travelled.macsim
-./macsim chains <"$key" >"$folder/chains"
+./macsim --proved chains <"$key" >"$folder/chains"
 prints tools/chains --policy mls --of vnode:/archive --element 5 "$key" "$folder/chains" <<'END'
 chain mls vnode:/archive 5 1@0 4@8.2 5@11.0 3@17.1 2@20.2
     1@0     vnode:/key has it from the opening
@@ -78,7 +89,7 @@ END
 count $? "$key: another origin is told"
 
 rules=examples/53-what-the-rules-withhold.macsim
-./macsim matrix <"$rules" >"$folder/matrix"
+./macsim --proved matrix <"$rules" >"$folder/matrix"
 prints tools/without mac_bsdextended "$rules" <<'END'
 proc:httpd vnode:/www/key ---- r-xs +r +x +s
 proc:guest vnode:/ --xs r-xs +r
@@ -105,6 +116,56 @@ count $? "docs/MANUAL.md shows another matrix of $rules"
 tools/chains --of vnode:/archive --element 5 "$key" "$folder/chains" >"$folder/told"
 quotes docs/MANUAL.md && quotes README.md
 count $? "docs/MANUAL.md or README.md shows another chain of $key"
+
+tools/matrix --modes "$rules" "$folder/matrix" | sed -n '1,/^$/{/./p}; $p' >"$folder/told"
+quotes docs/MANUAL.md
+count $? "docs/MANUAL.md shows other mode bits of $rules"
+
+# Whom mode bits refuse what: owner, group and others, whatever those behind are given; uid 0, also what nobody may run; modes that were changed,
+# and of what was made; what lies in a directory that is denied, by its mode or by a policy.
+cat >"$folder/modes" <<'END'
+boot mac_biba
+file /own reg uid 1001 gid 20 mode 077 label -
+file /group reg uid 0 gid 20 mode 705 label -
+file /others reg uid 0 gid 0 mode 706 label -
+file /run reg uid 0 gid 0 mode 010 label -
+file /late reg uid 0 gid 0 mode 666 label -
+file /d dir uid 0 gid 20 mode 750 label -
+file /d/f reg uid 0 gid 0 mode 777 label -
+file /low dir uid 0 gid 0 mode 755 label biba/low
+file /low/f reg uid 0 gid 0 mode 777 label -
+task root uid 0 gid 0 label -
+chmod /late 600
+end
+task member uid 1001 gid 5,20 label -
+end
+task guest uid 1002 gid 1002 label -
+create /new
+end
+END
+./macsim --proved matrix <"$folder/modes" >"$folder/text"
+tools/matrix --modes "$folder/modes" "$folder/text" | sed '/^$/,$d' >"$folder/told"
+cmp -s "$folder/told" - <<'END'
+files and directories: r read or list, w write or create in, x run or look up in, s stat
+               root   member  guest
+vnode:/        rwxs   rWxs    rWxs
+vnode:/own     rwxs   RWXs    rwxs
+vnode:/group   rwxs   RWXs    rWxs
+vnode:/others  rwxs   rwXs    rwXs
+vnode:/run     rwxs   RWXs    RWXs
+vnode:/late    rwXs   RWXs    RWXs
+vnode:/d       rwxs   rWxs    RWXs
+vnode:/d/f     rwxs   rwxs    rwxs/
+vnode:/low     -w--   -W--    -W--
+vnode:/low/f   rwxs/  rwxs/   rwxs/
+vnode:/new     rwXs   rWXs    rwXs
+END
+count $? "mode bits are judged otherwise"
+with_modes "$folder/modes" "$folder/text" | sort >"$folder/wanted"
+tools/annotate "$folder/modes" "$folder/text" | awk '/^matrix / { print $1, $2, $3, $NF }' | sort | cmp -s - "$folder/wanted"
+count $? "tools/annotate marks a matrix otherwise"
+complains "doesn't begin with the boot lines" tools/matrix --modes "$key" "$folder/text"
+count $? "the modes of another script aren't told"
 
 # A word that is exchanged for another in one line, and a line that is left out.
 sed 's/^\(matrix proc:guest vnode:\/www\/key\) r-xs/\1 -w--/; /^matrix proc:guest /!s/ socket:control r-v/ socket:control ---/' "$folder/matrix" >"$folder/other"

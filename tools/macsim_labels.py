@@ -1,6 +1,8 @@
 """Label texts, and what labels are when something comes, is relabelled or lowered, by docs/MANUAL.md (LABELS, RELABELLING, POLICIES). Nothing of
 it is proved.
 """
+from __future__ import annotations
+
 import re
 from collections import namedtuple
 
@@ -10,11 +12,14 @@ from macsim_text import DIGITS, number_of
 # the elements of mac_lomac, which have no compartments, by dominance.
 LOW, HIGH, EQUAL = (0,), (2,), (3,)
 GRADE = 1
+Element = tuple[int, ...]
 NAMED = {"low": LOW, "lo": LOW, "high": HIGH, "hi": HIGH, "equal": EQUAL, "eq": EQUAL}
 
 # What mac_biba, mac_mls or mac_lomac has in a label. Each part may be None: of a text what it doesn't give, and the range of what is no process.
 # That of mac_lomac has never a range.
 Levels = namedtuple("Levels", "effective range")
+# The parts of a label, by slot.
+Label = dict[int, "Levels | int"]
 
 BIBA, MLS, LOMAC, PARTITION = "mac_biba", "mac_mls", "mac_lomac", "mac_partition"
 MODULES = {"biba": BIBA, "mls": MLS, "lomac": LOMAC, "partition": PARTITION}
@@ -24,7 +29,7 @@ WITH_RANGES = (BIBA, MLS)
 WITH_SOURCES = (BIBA, MLS, LOMAC)
 
 
-def element_of(text):
+def element_of(text: str) -> Element:
     if text in NAMED:
         return NAMED[text]
     if not re.fullmatch(rf"{DIGITS}(:{DIGITS}(\+{DIGITS})*)?", text):
@@ -34,7 +39,7 @@ def element_of(text):
     return (GRADE, number_of(grade), *sorted(numbers))
 
 
-def levels_of(text):
+def levels_of(text: str) -> Levels:
     found = re.fullmatch(r"([^()]*)(?:\(([^()-]*)-([^()-]*)\))?", text)
     if not found or text == "":
         raise ValueError(f"`{text}` is neither an element nor a range")
@@ -42,13 +47,13 @@ def levels_of(text):
     return Levels(element_of(effective) if effective else None, (element_of(bottom), element_of(top)) if bottom is not None else None)
 
 
-def plain_of(text):
+def plain_of(text: str) -> Levels:
     if text not in NAMED and not re.fullmatch(DIGITS, text):
         raise ValueError(f"`{text}` is no element of mac_lomac")
     return Levels(element_of(text), None)
 
 
-def partition_of(text):
+def partition_of(text: str) -> int:
     if text != "none" and not re.fullmatch(DIGITS, text):
         raise ValueError(f"`{text}` is no partition")
     return 0 if text == "none" else number_of(text)
@@ -57,7 +62,7 @@ def partition_of(text):
 VALUES = {"biba": levels_of, "mls": levels_of, "lomac": plain_of, "partition": partition_of}
 
 
-def request_of(text):
+def request_of(text: str) -> dict[str, Levels | int]:
     """What a label text gives, by module: Levels or a partition. The last element of a policy counts, and replaces the earlier ones whole."""
     request = {}
     for part in [] if text == "-" else text.split(","):
@@ -71,7 +76,7 @@ def request_of(text):
 # Labels, by slot
 
 
-def replaced(old, asked):
+def replaced(old: Levels | int | None, asked: Levels | int) -> Levels | int | None:
     """The value with the parts that are asked in place of its own."""
     if not isinstance(asked, Levels):
         return asked or old
@@ -79,17 +84,34 @@ def replaced(old, asked):
     return Levels(asked.effective or old.effective, asked.range or old.range)
 
 
-def element_in(label, slot):
+def dominates(above: Element, below: Element) -> bool:
+    """Whether an element dominates another, by the table of dominance."""
+    if EQUAL in (above, below) or below == LOW or above == HIGH:
+        return True
+    if above == LOW or below == HIGH:
+        return False
+    return above[1] >= below[1] and set(above[2:]) >= set(below[2:])
+
+
+def is_valid(levels: Levels) -> bool:
+    """Whether the effective element lies in the range, where there is one."""
+    if levels.range is None:
+        return True
+    bottom, top = levels.range
+    return dominates(levels.effective, bottom) and dominates(top, levels.effective)
+
+
+def element_in(label: Label, slot: int | None) -> Element | None:
     """The effective element in a slot, or None."""
     value = label.get(slot)
     return value and value.effective
 
 
-def labels_kind(module, kind):
+def labels_kind(module: str, kind: str) -> bool:
     return module in LATTICES or (module == PARTITION and kind in ("proc", "socket"))
 
 
-def boot_label(slots, kind, request):
+def boot_label(slots: dict[str, int], kind: str, request: dict[str, Levels | int]) -> Label:
     """The label of what is there at boot, where the modules have these slots."""
     label = {}
     for module, slot in slots.items():
@@ -101,7 +123,7 @@ def boot_label(slots, kind, request):
     return label
 
 
-def new_label(slots, kind, maker):
+def new_label(slots: dict[str, int], kind: str, maker: Label) -> Label:
     """The label of what a process of the label `maker` makes."""
     label = {}
     for module, slot in slots.items():
@@ -113,7 +135,7 @@ def new_label(slots, kind, maker):
     return label
 
 
-def lowered(slots, label, observed):
+def lowered(slots: dict[str, int], label: Label, observed: Label) -> Label:
     """The label of a process after it has observed a thing of the other label: mac_lomac lowers it, where neither is `equal`."""
     slot = slots.get(LOMAC)
     own, other = label.get(slot), observed.get(slot)
@@ -122,7 +144,7 @@ def lowered(slots, label, observed):
     return {**label, slot: own._replace(effective=min(own.effective, other.effective))}
 
 
-def relabelled(slots, label, request):
+def relabelled(slots: dict[str, int], label: Label, request: dict[str, Levels | int]) -> Label:
     asked = {slots[module]: value for module, value in request.items() if module in slots}
     changed = {slot: replaced(label.get(slot), value) for slot, value in asked.items()}
     return {**label, **{slot: value for slot, value in changed.items() if value is not None}}
@@ -131,7 +153,7 @@ def relabelled(slots, label, request):
 # Texts
 
 
-def element_text(element):
+def element_text(element: Element) -> str:
     for name in ("low", "high", "equal"):
         if element == NAMED[name]:
             return name
@@ -139,7 +161,7 @@ def element_text(element):
     return f"{element[1]}:{compartments}" if compartments else str(element[1])
 
 
-def value_text(module, value):
+def value_text(module: str, value: Levels | int | None) -> str:
     """What a label says of a module's policy, in canonical text. A value is None where the slot is unset."""
     if module == PARTITION:
         return f"partition/{value or 'none'}"

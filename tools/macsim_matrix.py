@@ -4,11 +4,12 @@ picture. Nothing of it is proved.
 import re
 from collections import namedtuple
 from html import escape
+from textwrap import wrap
 
 from macsim_text import BadInput
 
-# The letters of each subject and object, by the two titles; both in the order of the lines.
-Matrix = namedtuple("Matrix", "subjects objects letters")
+# The letters of each subject and object, by the two titles; both in the order of the lines. What its letters say besides is told below them.
+Matrix = namedtuple("Matrix", "subjects objects letters note", defaults=("",))
 # What a subject may do to an object in two matrices. One of them may be None, where the pair is in one matrix alone.
 Cell = namedtuple("Cell", "before now")
 
@@ -19,6 +20,8 @@ KINDS = {
     "socket": "sockets: r receive, w send, v see",
     "proc": "processes: v see, g signal, d debug, c schedule",
 }
+# Behind the letters of what a process has no way to. Letters in upper case count as refused.
+CUT_OFF = "/"
 LETTERS = {"vnode": "rwxs", "pipe": "rws", "socket": "rwv", "proc": "vgdc"}
 GAP = "  "
 
@@ -40,6 +43,11 @@ def matrix_of(text, name):
     if [row[:2] for row in rows] != [(subject, thing) for subject in subjects for thing in objects]:
         raise BadInput(name, len(lines) - 1, "its matrix lacks a line, or has one too many")
     return Matrix(subjects, objects, {(subject, thing): letters for subject, thing, letters in rows})
+
+
+def history_of(text):
+    """The text of the run, in front of its matrix."""
+    return re.split(r"^matrix ", text, maxsplit=1, flags=re.MULTILINE)[0]
 
 
 def row_of(line, number, name):
@@ -114,11 +122,11 @@ def name_of_process(title):
     return title.removeprefix("proc:")
 
 
-def blocks(subjects, room):
-    """The processes in rows that have room for their names, one at least in each."""
+def blocks(subjects, room, least):
+    """The processes in rows that have room for their names, one at least in each. No column is narrower than the least."""
     found, left = [[]], room
     for subject in subjects:
-        wanted = max(len(name_of_process(subject)), 4) + len(GAP)
+        wanted = max(len(name_of_process(subject)), least) + len(GAP)
         if wanted > left and found[-1]:
             found.append([])
             left = room
@@ -129,10 +137,10 @@ def blocks(subjects, room):
 
 def table(matrix, width):
     """The letters of a matrix: a column for each process, a row for each object, by kinds."""
-    first = max(map(len, matrix.objects))
+    first, least = max(map(len, matrix.objects)), max(map(len, matrix.letters.values()))
     text = []
-    for subjects in blocks(matrix.subjects, width - first):
-        names = [name_of_process(subject).ljust(4) for subject in subjects]
+    for subjects in blocks(matrix.subjects, width - first, least):
+        names = [name_of_process(subject).ljust(least) for subject in subjects]
         for kind, objects in grouped(matrix):
             text.append(KINDS[kind])
             text.append(GAP.join(["".ljust(first), *names]))
@@ -140,7 +148,7 @@ def table(matrix, width):
                 cells = [matrix.letters[subject, thing].ljust(len(name)) for subject, name in zip(subjects, names)]
                 text.append(GAP.join([thing.ljust(first), *cells]))
             text.append("")
-    return "".join(f"{line.rstrip()}\n" for line in text[:-1])
+    return "".join(f"{line.rstrip()}\n" for line in [*text[:-1], *(["", matrix.note] if matrix.note else [])])
 
 
 # The page and the picture. In both a cell is of one of these classes, by what may be done, or by what differs
@@ -151,7 +159,8 @@ def class_of(cell):
         told = changes_of(cell)
         signs = {change[0] for change in told}
         return {frozenset("+"): "more", frozenset("-"): "less", frozenset("+-"): "other"}.get(frozenset(signs), "same")
-    return "all" if "-" not in cell else "none" if set(cell) == {"-"} else "some"
+    usable = 0 if cell.endswith(CUT_OFF) else sum(map(str.islower, cell))
+    return "all" if usable == len(cell) else "some" if usable else "none"
 
 
 # The colours of each class: the ground and the letters.
@@ -185,7 +194,7 @@ def page(matrix, title):
     )
     parts = [f'<!DOCTYPE html>\n<html lang="en"><meta charset="utf-8"><title>{escape(title)}</title><style>{style}{colours}</style>\n<h1>{escape(title)}</h1>\n']
     marks = "".join(f'<td class="{name}">{said}</td>' for name, said in legend_of(matrix).items())
-    parts.append(f"<table><tr>{marks}</tr></table>\n")
+    parts.append(f"<table><tr>{marks}</tr></table>\n" + (f"<p>{escape(matrix.note)}</p>\n" if matrix.note else ""))
     for kind, objects in grouped(matrix):
         heads = "".join(f"<th>{escape(name_of_process(subject))}</th>" for subject in matrix.subjects)
         parts.append(f"<h2>{escape(KINDS[kind])}</h2>\n<table><thead><tr><th></th>{heads}</tr></thead><tbody>\n")
@@ -202,6 +211,8 @@ def html_cell(subject, thing, cell):
 
 # The picture: places in pixels, with letters of 12 that are at most 7.5 wide.
 LETTER, ROW, EDGE = 7.5, 22, 12
+# A line of a note has so many letters at least.
+NOTE_LETTERS = 60
 
 
 class Picture:
@@ -253,6 +264,9 @@ def picture(matrix, title):
             cells = [matrix.letters[subject, thing] for subject in matrix.subjects]
             draw_row(drawn, first, widths, thing, [(class_of(cell), letters_of(cell)) for cell in cells])
         drawn.down(0.5)
+    for line in wrap(matrix.note, max(NOTE_LETTERS, int(drawn.width / LETTER))):
+        drawn.text(EDGE, line, "#555555")
+        drawn.down()
     return drawn.whole(title)
 
 

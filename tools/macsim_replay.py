@@ -17,8 +17,8 @@ STEPS = {"stale": "done", "changed": "change", "waits": "change"}
 
 # A check with its subject and object, and with their labels and attributes as they were then. The object may be None. It is uncounted
 # where it isn't one of mac_biba's movements: made through a descriptor, without revocation, while the process or the file has another element of
-# mac_biba than at the opening.
-Check = namedtuple("Check", "operation subject object subject_label object_label file is_uncounted")
+# mac_biba than at the opening. `behind` is the label of the process that calls where the check passes.
+Check = namedtuple("Check", "operation subject object subject_label object_label file is_uncounted behind")
 # What a line of a history tells: its event; the number of the line of the script that it is about, or None; the call, or None; the process
 # that made the call, or None; its checks, up to the one that was denied; the denial, or None; the label slots, by module, as they were
 # then; what the call made; and what it relabelled, with what was asked.
@@ -109,8 +109,8 @@ class Replay:
         for operation, subject, found in checks_of(self.things, caller, call.words, reply):
             file = found.facts if found is not None and found.kind == "vnode" else None
             own = label if subject is caller else subject.label
-            checks.append(Check(operation, subject, found, own, found and found.label, file, self.is_uncounted(call, caller)))
             label = self.after_check(label, operation, found)
+            checks.append(Check(operation, subject, found, own, found and found.label, file, self.is_uncounted(call, caller), label))
         return checks
 
     def asked_checks(self, call, caller, reply):
@@ -134,7 +134,7 @@ class Replay:
         checks, denial = self.asked_checks(call, caller, event.reply)
         slots = self.slots
         for check in checks if denial is None else checks[:-1]:
-            caller.label = self.after_check(caller.label, check.operation, check.object)
+            caller.label = check.behind
         made, changed = self.do(event, call, caller) if event.reply.startswith("ok") else (None, None)
         return Happening(event, call.number, call, caller, checks, denial, slots, made, changed)
 
