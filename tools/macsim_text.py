@@ -3,6 +3,8 @@
 Scripts are read by the grammar of docs/MANUAL.md (THE SCRIPT), without its limits and without what rules and label texts say: those the
 program judges. What can't be read is BadInput, which tells the file and the line; so no tool answers by a part of its input.
 """
+from __future__ import annotations
+
 import re
 from collections import namedtuple
 
@@ -29,7 +31,7 @@ MOST_SAID = 300
 class BadInput(Exception):
     """An input that can't be read, or doesn't belong to another."""
 
-    def __init__(self, name, number, fault):
+    def __init__(self, name: object, number: int | None, fault: object) -> None:
         said = str(fault)
         said = said if len(said) <= MOST_SAID else f"{said[:MOST_SAID]}.."
         super().__init__(f"{name} line {number}: {said}" if number else f"{name}: {said}")
@@ -45,7 +47,7 @@ class Fault(Exception):
 DIGITS = "0*[0-9]{1,10}"
 
 
-def number_of(word):
+def number_of(word: str) -> int:
     """The value of DIGITS."""
     return int(word[-10:])
 
@@ -104,11 +106,11 @@ TUNABLE, TUNED = "security.mac.biba.revocation_enabled", "mac_biba"
 SWITCH = {"0": False, "1": True}
 
 
-def is_word(word, want):
+def is_word(word: str, want: str) -> bool:
     return re.fullmatch(WORDS[want], word) is not None if want in WORDS else word == want
 
 
-def match_words(words, form):
+def match_words(words: list[str], form: str) -> None:
     """Faults where the words aren't those of the form."""
     wanted = form.split()
     for word, want in zip(words, wanted):
@@ -120,7 +122,7 @@ def match_words(words, form):
         raise Fault(f"`{words[len(wanted)]}` is too much")
 
 
-def match_ugidfw(words):
+def match_ugidfw(words: list[str]) -> None:
     if not words or words[0] not in UGIDFW:
         raise Fault(f"there is no call `{' '.join(['ugidfw', *words[:1]])}`")
     arguments = len(UGIDFW[words[0]].split())
@@ -130,7 +132,7 @@ def match_ugidfw(words):
         raise Fault("it ends where a rule is wanted")
 
 
-def match_call(words):
+def match_call(words: list[str]) -> None:
     if not words:
         raise Fault("it ends where a call is wanted")
     if words[0] == "ugidfw":
@@ -147,18 +149,18 @@ def match_call(words):
 class ScriptReader:
     """Reads the lines of a script one after another."""
 
-    def __init__(self, name, lines):
+    def __init__(self, name: str, lines: list[str]) -> None:
         self.script = Script(name, lines, [], None, {}, {}, None)
         # The part that is read, and the task whose lines are.
         self.part, self.task = "boot", None
 
-    def read_boot(self, number, words):
+    def read_boot(self, number: int, words: list[str]) -> None:
         match_words(words[1:], "MODULE")
         if words[1] in (boot.module for boot in self.script.boots):
             raise Fault(f"{words[1]} is booted already")
         self.script.boots.append(Boot(number, words[1]))
 
-    def read_tunable(self, number, words):
+    def read_tunable(self, number: int, words: list[str]) -> None:
         match_words(words[1:], "NAME=VALUE")
         name, _, value = words[1].partition("=")
         if name != TUNABLE or TUNED not in (boot.module for boot in self.script.boots):
@@ -169,7 +171,7 @@ class ScriptReader:
             raise Fault(f"{name} is set already")
         self.script = self.script._replace(revocation=SWITCH[value])
 
-    def read_file(self, number, words):
+    def read_file(self, number: int, words: list[str]) -> None:
         has_text = len(words) > 11 and words[2] == "reg"
         match_words(words[1:], "PATH KIND uid N gid N mode OCTAL label L" + " text TEXT" * has_text)
         path, kind, _, uid, _, gid, _, mode, _, label = words[1:11]
@@ -180,14 +182,14 @@ class ScriptReader:
             raise Fault(f"there is no directory {directory}")
         self.script.files[path] = File(number, path, kind == "dir", number_of(uid), number_of(gid), int(mode, 8), label)
 
-    def read_task(self, number, words):
+    def read_task(self, number: int, words: list[str]) -> None:
         match_words(words[1:], "NAME uid N gid GROUPS label L")
         name, _, uid, _, groups, _, label = words[1:]
         if name in self.script.tasks:
             raise Fault(f"there is a task {name} already")
         self.task = Task(number, name, number_of(uid), [number_of(group) for group in groups.split(",")], label, [])
 
-    def read_in_task(self, number, words):
+    def read_in_task(self, number: int, words: list[str]) -> None:
         if words == ["end"]:
             self.script.tasks[self.task.name] = self.task
             self.task = None
@@ -199,7 +201,7 @@ class ScriptReader:
         match_call(call)
         self.task.calls.append(Call(number, " ".join(words), child, call))
 
-    def read_in_steps(self, number, words):
+    def read_in_steps(self, number: int, words: list[str]) -> None:
         if words == ["end"]:
             self.part = "end"
         elif words[0] in STEPS:
@@ -208,7 +210,7 @@ class ScriptReader:
         else:
             raise Fault(f"there is no step `{words[0]}`")
 
-    def read_part(self, number, words):
+    def read_part(self, number: int, words: list[str]) -> None:
         """Reads a line outside tasks and steps. The parts stand in this order."""
         parts = ("boot", "tunable", "file", "task", "steps")
         if words[0] not in parts or self.part not in parts[: parts.index(words[0]) + 1]:
@@ -221,7 +223,7 @@ class ScriptReader:
             readers = {"boot": self.read_boot, "tunable": self.read_tunable, "file": self.read_file, "task": self.read_task}
             readers[words[0]](number, words)
 
-    def read_line(self, number, line):
+    def read_line(self, number: int, line: str) -> None:
         if re.search(r"[^\t -~]", line):
             raise Fault("it has a byte that may not stand in a script")
         words = line.split()
@@ -235,7 +237,7 @@ class ScriptReader:
             self.read_part(number, words)
 
 
-def script_of(text, name):
+def script_of(text: str, name: str) -> Script:
     lines = text.removesuffix("\n").split("\n") if text else []
     reader = ScriptReader(name, lines)
     for number, line in enumerate(lines, 1):
@@ -262,7 +264,7 @@ EVENTS = {
 }
 
 
-def event_of(line, number, name):
+def event_of(line: str, number: int, name: str) -> Event:
     if re.search("[^ -~]", line):
         raise BadInput(name, number, "it has a byte that may not stand in a history")
     kind = line.partition(" ")[0]
@@ -274,13 +276,13 @@ def event_of(line, number, name):
     return Event(number, line, kind, told.get("task"), int(told["line"]) if "line" in told else None, told.get("reply"))
 
 
-def events_of(text, name):
+def events_of(text: str, name: str) -> list[Event]:
     if text and not text.endswith("\n"):
         raise BadInput(name, text.count("\n") + 1, "the history ends inside a line")
     return [event_of(line, number, name) for number, line in enumerate(text.split("\n")[:-1], 1)]
 
 
-def denial_of(reply):
+def denial_of(reply: str | None) -> Denial | None:
     """What a reply says of a denial, or None where the call wasn't denied."""
     found = re.fullmatch(DENIED, reply or "")
     return found and Denial(found[1], found[2], found[3], int(found[4]))
