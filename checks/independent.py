@@ -8,7 +8,7 @@ what proofs cite. A line for each name that it may not use, then a count.
 import re
 from pathlib import Path
 
-CRATES = ["mf_answers", "mf_parties", "mf_audit"]
+CRATES = ["mf_answers", "mf_parties", "mf_audit", "mf_verdict"]
 # What may be used of the crates that the program judged by them stands on. A crate that isn't here is
 # one of values and texts, of definitions of answers, or of the auditor's own.
 HISTORY = {"History", "Event", "EventList", "BootList", "KeptReply", "LentReply"}
@@ -16,6 +16,13 @@ ALLOWED = {
     "mf_objects": {"Head"},
     "mf_plan": {"Reply", "Payload", "LabelPart", "Loaded"},
     "mf_core": HISTORY | {"Phase", "Progress", "Turn"},
+}
+# What mf_verdict may use besides, which puts an audit and a text together. It reads the history by mf_hist's reader, whose clauses
+# say what is read; and what it compares the sources with is made by the same fold and the same printing as in a run, so that part
+# of a text isn't judged by a second implementation.
+VERDICT = {
+    "mf_flow": {"sources", "print_sources"},
+    "mf_hist": {"read_history", "HistError"},
 }
 VALUES = {
     *("mf_errno", "mf_elem", "mf_text", "mf_names", "mf_cred", "mf_item", "mf_rule", "mf_compose"),
@@ -53,6 +60,8 @@ def may_use(user, crate, name):
         return True
     if crate == "mf_policy":
         return name in POLICY.get(user, ())
+    if user == "mf_verdict" and name in VERDICT.get(crate, ()):
+        return True
     return crate in VALUES and name != "*" or name in ALLOWED.get(crate, ())
 
 
