@@ -27,7 +27,7 @@ is_bit words i = eqb (bit_at (get_or words (i / 64) 0) (i % 64)) 1
 abbrev pub numbers_of : List ℕ → FinSet nat_cmp
 numbers_of words = compartments_of (record { words = words })
 
-there_is_bit : (words : List ℕ) (m : ℕ) → is_there words (suc m) ≡ is_bit words m
+pub there_is_bit : (words : List ℕ) (m : ℕ) → is_there words (suc m) ≡ is_bit words m
 there_is_bit words m = let e : suc m - 1 ≡ m = omega arith in ap (is_bit words) e
 
 all_within : (m : ℕ) (b : Bool) → ltb m 256 ≡ true → (ltb m 256 && b) ≡ b
@@ -74,7 +74,7 @@ place_word k i h = omega arith
 place_bit : (k i : ℕ) → i < 64 → (64 * k + i) % 64 ≡ i
 place_bit k i h = omega arith
 
-is_bit_at : (words : List ℕ) (k i : ℕ) → i < 64 → is_bit words (64 * k + i) ≡ eqb (bit_at (get_or words k 0) i) 1
+pub is_bit_at : (words : List ℕ) (k i : ℕ) → i < 64 → is_bit words (64 * k + i) ≡ eqb (bit_at (get_or words k 0) i) 1
 is_bit_at words k i h =
     ap (λ w. eqb (bit_at (get_or words w 0) ((64 * k + i) % 64)) 1) (place_word k i h)
     ∙ ap (λ b. eqb (bit_at (get_or words k 0) b) 1) (place_bit k i h)

@@ -55,7 +55,7 @@ pub fn is_plain(e: &Elem) -> bool
     ensures { result ≡ spec.is_plain e.now }
 {
     match e {
-        Elem::Grade(_, comps) => Comps::empty().contains(comps),
+        Elem::Grade(_, comps) => comps.is_empty(),
         _ => true,
     }
 }

@@ -7,7 +7,10 @@ use Rattle.std.specs.List.{join_with_byte}
 use Rattle.std.specs.Fmt.{decimal}
 use Rattle.mf_labeltext.specs.Canonical.{comps_text}
 use Rattle.mf_labeltext.specs.Commas.{comma_behind}
+use Rattle.std.specs.Cmp.{nat_cmp_total}
+use Rattle.std.specs.Ordering.{nat_cmp}
 use Rattle.std.specs.FinSet as set
+use Rattle.std.specs.FinSet.{contains-empty, is_subset-contains}
 use Rattle.mf_elem.specs.Comps.{compartments_of, rising}
 use Rattle.mf_elem.proofs.Among.{numbers_to}
 use Rattle.mf_elem.proofs.CompsLaws.{rising_contained}
@@ -103,6 +106,22 @@ elements_more f xs i d within =
 
 pub nothing_printed : (test : ℕ → Bool) (before : List ℕ) → Printed test before before 58 0
 nothing_printed test before = record { text = sym (append-nil before); separator_is = refl; ascii = lit< tt }
+
+none_listed : (f : ℕ → Bool) (ns : List ℕ) → ((n : ℕ) → f n ≡ false) → filter f ns ≡ []
+none_listed f [] none = refl
+none_listed f (n ∷ ns) none = rw (none n) (none_listed f ns none)
+
+-- an empty set prints nothing
+pub nothing_to_print : (comps : Comps) (before : List ℕ) → set.is_subset (compartments_of comps) (set.empty {K = ℕ} {R = nat_cmp}) ≡ true → before ≡ before ++ comps_text (rising comps)
+nothing_to_print comps before empty =
+    let none : rising comps ≡ [] =
+    rising_contained comps ∙ none_listed (set.contains (compartments_of comps)) (numbers_to 256) (λ n. one n (set.contains (compartments_of comps) n) refl) in
+    rw none (sym (append-nil before))
+  where
+    one : (n : ℕ) (b : Bool) → set.contains (compartments_of comps) n ≡ b → b ≡ false
+    one n false is = refl
+    one n true is =
+        sym (is_subset-contains nat_cmp_total (compartments_of comps) (set.empty {K = ℕ} {R = nat_cmp}) empty n is) ∙ contains-empty nat_cmp n
 
 pub all_printed : (comps : Comps) (before after : List ℕ) (separator n : ℕ) → Printed (set.contains (compartments_of comps)) before after separator n → n ≡ 256 → after ≡ before ++ comps_text (rising comps)
 all_printed comps before after separator n printed end =

@@ -239,6 +239,9 @@ fn push_comps(comps: &Comps, out: &mut String) -> Result<(), AllocError>
         ≡ string_bytes out.old ++ comps_text (rising comps.now)) }
     ensures err { OnErr result (Extends (string_bytes out.old) (string_bytes out.new)) }
 {
+    if comps.is_empty() {
+        return Ok(());
+    }
     let mut separator = ':';
     for place in 0..LAST_COMPARTMENT {
         let n = place + 1;

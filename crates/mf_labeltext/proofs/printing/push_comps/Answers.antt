@@ -1,7 +1,7 @@
 use Rattle.std.proofs.Common.{◌+◌, string_bytes, ap, sym, subst, ◌∙◌, arith}
 use Rattle.std.specs.FinSet as set
 use Rattle.mf_elem.specs.Comps.{compartments_of}
-use Rattle.mf_labeltext.proofs.Printings.{Printed, nothing_printed, printed_not, printed_more, all_printed}
+use Rattle.mf_labeltext.proofs.Printings.{Printed, nothing_printed, nothing_to_print, printed_not, printed_more, all_printed}
 use Rattle.mf_labeltext.proofs.printing.push_comps.Goals as goal
 use Rattle.mf_labeltext.proofs.printing.push_comps.Goals.{then-has+in_ok-push_comp, else-has}
 
@@ -29,3 +29,6 @@ loop-place-preserved c =
 
 pub returns-clause-ok : goal.returns-clause-ok
 returns-clause-ok c = all_printed c.args.comps.now (string_bytes c.args.out.now) (string_bytes c.loop-place.out) c.loop-place.separator c.loop-place.place c.loop-place.invariant (omega arith)
+
+pub returns-then-is_empty-clause-ok : goal.returns-then-is_empty-clause-ok
+returns-then-is_empty-clause-ok c = nothing_to_print c.args.comps.now (string_bytes c.args.out.now) (sym c.is_empty.ensures ∙ c.if-is_empty.true)
