@@ -1,13 +1,12 @@
 //! Calls of t and its child c where mac_biba is listed: what they make, and what the policy refuses. There is nothing but the
 //! root, which is high, the process t and the process u.
-ghost use Rattle.std.specs.Prelude.{◌≡◌, ◌≤◌, IfOk, length, true};
+ghost use Rattle.std.specs.Prelude.{◌≡◌, ◌≤◌, IfOk, length};
 ghost use Rattle.mf_policy.specs.declared.registration.TheConstants.{MOST_LISTED};
 ghost use Rattle.mf_calls.specs.WellFormed.{IsFormedLine, IsName};
 ghost use Rattle.mf_plan.specs.declared.plan.Tail.TheVariants.{Do};
 ghost use Rattle.mf_plan.specs.Found.{AreFound};
 ghost use Rattle.mf_plan.specs.Plan.{plan_of};
 ghost use Rattle.mf_perform.specs.OneCall.{call_reply};
-ghost use Rattle.mf_perform.specs.Refused.{is_ok};
 ghost use Rattle.mf_perform.specs.Verdict.{verdict_of};
 
 use crate::machine::{Machine, booted, labelled, with_biba};
@@ -41,10 +40,8 @@ fn reply_by(
         → AreFound state.now task.now line.now.child line.now.call found.now }
     requires verdict { verdict.now ≡ verdict_of state.now.specs plan.now }
     requires few { length state.now.specs ≤ MOST_LISTED }
-    ensures reply { IfOk result (λ reply. reply
+    ensures { IfOk result (λ reply. reply
         ≡ call_reply state.now task.now line.now.child line.now.call) }
-    ensures found { IfOk result (λ reply. is_ok reply ≡ true
-        → AreFound state.now task.now line.now.child line.now.call found.now) }
 {
     if let Some(refusal) = refusal_of(plan, verdict) {
         return Ok(refusal);
@@ -80,7 +77,7 @@ fn reply_of<P: Policy>(
     let found = &outline.found;
     let verdict = verdict_of(&list, &plan);
     let reply = reply_by(alloc, &machine.state, task, line, &plan, found, &verdict)?;
-    complete(alloc, &mut machine.state, task, line, found, &reply)?;
+    complete(alloc, &mut machine.state, task, line, &outline, &reply)?;
     Ok(reply)
 }
 

@@ -182,18 +182,18 @@ impl<'s> Run<'s> {
         self.progress.leave(task as usize);
     }
 
-    /// The call of the task's entry, at the line of that number, is done with this reply. If memory runs out, nothing changes.
+    /// The call of the task's entry, at the line of that number, is done with this reply; the outline is that of the call. If memory
+    /// runs out, nothing changes.
     pub fn commit(
         &mut self,
         alloc: Global,
         task: u32,
         number: u32,
-        found: &Found,
+        outline: &Outline,
         reply: &KeptReply,
     ) -> Result<(), AllocError>
         requires may { MayCome self.old.script self.old.run (event.Done task number reply.now) }
-        requires found { is_ok reply.now ≡ true
-            → IsNextFound self.old.script self.old.run task found.now }
+        requires outline { IsNextOutline self.old.script self.old.run task outline.now }
         ensures ok { OnOk result (self.new ≡ run_on self.old (event.Done task number reply.now)) }
         ensures err { OnErr result (self.new ≡ self.old) }
         ensures memory { is_ok reply.now ≡ false → IsOk result }
@@ -201,7 +201,7 @@ impl<'s> Run<'s> {
         let line = self.line(task);
         let name = self.script.name_of(task);
         let lent = reply.lend();
-        complete(alloc, &mut self.state, name, line, found, lent.get())?;
+        complete(alloc, &mut self.state, name, line, outline, lent.get())?;
         self.progress.set_phase(task as usize, Phase::Done);
         Ok(())
     }

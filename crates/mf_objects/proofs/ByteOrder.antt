@@ -19,15 +19,7 @@ use Rattle.std.proofs.lemmas.Map.Text.{is_eq-slice_cmp}
 use Rattle.std.proofs.lemmas.Slice.Eq.{bytes_eq-Decides}
 use Rattle.mf_objects.specs.declared.limits.TheConstants.{MOST_NAMES}
 use Rattle.mf_objects.specs.Titles.{in_byte_order}
-use Rattle.mf_objects.specs.Names.{IsFirstNames}
-
--- the first name isn't after the second
-abbrev comes_first : List ℕ → List ℕ → Bool
-comes_first name other = is_le (slice_cmp nat_cmp name other)
-
--- names in byte order, with one more in its place
-abbrev with_name : List ℕ → List (List ℕ) → List (List ℕ)
-with_name name names = insert names (position_or_len (comes_first name) names) name
+use Rattle.mf_objects.specs.Names.{IsFirstNames, comes_first, with_name}
 
 flipped : (o : Ordering) → is_le o ≡ true → is_lt (ordering_reverse o) ≡ false
 flipped Less le = refl
@@ -51,7 +43,7 @@ passed name names d within = flip (comes_first name (get_or names (position_or_l
     flip true h = refl
     flip false h = absurd (false≢true (sym h))
 
-sorted_with : (name : List ℕ) (names : List (List ℕ)) → IsSorted (slice_cmp nat_cmp) names → IsSorted (slice_cmp nat_cmp) (with_name name names)
+pub sorted_with : (name : List ℕ) (names : List (List ℕ)) → IsSorted (slice_cmp nat_cmp) names → IsSorted (slice_cmp nat_cmp) (with_name name names)
 sorted_with name names sorted k d low high =
     let p : ℕ = position_or_len (comes_first name) names in
     let most : p ≤ length names = prefix_len-le-length (λ (n : List ℕ). not (comes_first name n)) names in
@@ -186,22 +178,3 @@ first_are_first names =
       same = subst (IsPermutation names) (sym whole) (byte_order_permutation names);
       most = length-take MOST_NAMES ordered ∙ ap (min MOST_NAMES) (length_permutation names ordered (byte_order_permutation names));
     }
-
--- names that are sorted, as references to them, and cut to the first
-pub first_sorted : (names : List (List ℕ)) (found sorted : List (Bor (List ℕ))) → map (λ (name : Bor (List ℕ)). name.now) found ≡ names → IsPermutation found sorted
-    → IsSorted (λ (x y : Bor (List ℕ)). slice_cmp nat_cmp x.now y.now) sorted
-    → map (λ (name : Bor (List ℕ)). name.now) (take MOST_NAMES sorted) ≡ take MOST_NAMES (in_byte_order names)
-first_sorted names found sorted are same order =
-    let now : Bor (List ℕ) → List ℕ = λ name. name.now in
-    let bytes : List (List ℕ) = map now sorted in
-    let moved : IsPermutation names bytes = subst (λ (ns : List (List ℕ)). IsPermutation ns bytes) are (IsPermutation-map now found sorted same) in
-    let rises : IsSorted (slice_cmp nat_cmp) bytes = sorted_map sorted order in
-    sym (take-map now MOST_NAMES sorted) ∙ ap (take MOST_NAMES) (is_byte_order names bytes moved rises)
-  where
-    sorted_map : (xs : List (Bor (List ℕ))) → IsSorted (λ (x y : Bor (List ℕ)). slice_cmp nat_cmp x.now y.now) xs → IsSorted (slice_cmp nat_cmp) (map (λ (name : Bor (List ℕ)). name.now) xs)
-    sorted_map [] order k d low high = absurd (omega arith)
-    sorted_map (x ∷ xs) order k d low high =
-        let all : List (Bor (List ℕ)) = x ∷ xs in
-        let now : Bor (List ℕ) → List ℕ = λ name. name.now in
-        let within : k + 1 < length all = omega (arith, high, length-map all now) in
-        rw (get_or-map now all (k + 1) x d within, get_or-map now all k x d (omega arith)) (order k x low within)

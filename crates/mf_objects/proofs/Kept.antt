@@ -1,12 +1,12 @@
 -- What each change makes of the live entities, and that it keeps what is true of every population.
-use Rattle.std.proofs.Common.{◌≡◌, ◌≢◌, ◌↔◌, ℕ, ◌<◌, ◌+◌, List, [], ◌∷◌, ◌++◌, Option, Some, None, length, get_or, set, take, drop, map, remove, refl, ap, sym, ◌∙◌, subst, arith, zero, suc, IsSome, nat_eq, nat_lt, true, false, Bool, cond, position, not, Result, Ok, Err, OnOk, OnErr, IsTrue}
+use Rattle.std.proofs.Common.{◌≡◌, ◌≢◌, ◌↔◌, ℕ, ◌<◌, ◌≤◌, ◌+◌, List, [], ◌∷◌, ◌++◌, Option, inl, inr, Some, None, length, get_or, set, take, drop, map, remove, refl, ap, sym, ◌∙◌, subst, arith, zero, suc, IsSome, nat_eq, nat_lt, true, false, Bool, cond, position, not, Result, Ok, Err, OnOk, OnErr, IsTrue}
 use Rattle.std.specs.declared.alloc.AllocError.{AllocError}
-use Rattle.std.specs.Prelude.{All, find}
+use Rattle.std.specs.Prelude.{All, find, unwrap_or}
 use Rattle.std.specs.List.{position_or_len}
 use Rattle.std.proofs.lemmas.List.{set-get_or, map-append, set_split, length-set, length-map, length-take-le, length-append, length-drop, get_or-map, take-map, drop-map}
 use Rattle.std.proofs.lemmas.List.Elements.{All-push}
 use Rattle.std.proofs.lemmas.List.Quantifiers.{position-Some, all_pairs_remove}
-use Rattle.std.proofs.lemmas.Bool.{lt-ltb, false≢true}
+use Rattle.std.proofs.lemmas.Bool.{lt-ltb, false≢true, cases_lt}
 use Rattle.mf_elem.specs.declared.label.LabelValue.{LabelValue}
 use Rattle.mf_elem.specs.declared.label.LabelValue.TheVariants.{Unset, Range, Number}
 use Rattle.mf_slots.specs.Zones.{Contents, Handles, handle, label_values, MakesLabel, GivesUp, Relabels, IsMadeFor, AreMade, value_for, SetsAt, IsMadeAt, Makes, IsHeld, IsHeldAt, NoneUnset, slot_value, value_under}
@@ -337,6 +337,30 @@ pub value_place : (next : ℕ) (zones : Contents) (es : List Entity) (id : Id) (
     → IsPlace (view next zones es) id i → e ≡ get_or es i e → live_value (view next zones es) id slot ≡ slot_value zones e.label slot
 value_place next zones es id i e slot four place is =
     ap (λ (o : Option LiveEntity). get_or (label_of o) slot Unset) (found_place next zones es id i e place is) ∙ get_values zones e.label slot four
+
+-- there is none beyond
+none_beyond : (zones : Contents) (label : Handles) (slot : ℕ) → 4 ≤ slot → get_or (label_values zones label) slot Unset ≡ Unset
+unfolding label_values
+none_beyond zones label zero beyond = absurd (omega arith)
+none_beyond zones label (suc zero) beyond = absurd (omega arith)
+none_beyond zones label (suc (suc zero)) beyond = absurd (omega arith)
+none_beyond zones label (suc (suc (suc zero))) beyond = absurd (omega arith)
+none_beyond zones label (suc (suc (suc (suc slot)))) beyond = refl
+
+none_there : (value : Option LabelValue) (slot : ℕ) → (IsSome value → slot < 4) → 4 ≤ slot → unwrap_or value Unset ≡ Unset
+none_there None slot within beyond = refl
+none_there (Some value) slot within beyond = let below = within refl in absurd (omega (arith, below, beyond))
+
+-- the value of any slot, where it is made
+pub reference_place : (next : ℕ) (zones : Contents) (es : List Entity) (id : Id) (i : ℕ) (e : Entity) (slot : ℕ)
+    → IsPlace (view next zones es) id i → e ≡ get_or es i e
+    → (value : Option LabelValue) → unwrap_or value Unset ≡ slot_value zones e.label slot → (IsSome value → slot < 4)
+    → unwrap_or value Unset ≡ live_value (view next zones es) id slot
+reference_place next zones es id i e slot place is value held within = elim (cases_lt slot 4) [
+  | inl below ↦ held ∙ sym (value_place next zones es id i e slot below place is)
+  | inr beyond ↦ none_there value slot within beyond ∙ sym (none_beyond zones e.label slot beyond)
+      ∙ ap (λ (o : Option LiveEntity). get_or (label_of o) slot Unset) (sym (found_place next zones es id i e place is))
+]
 
 -- a slot that isn't made is Unset
 pub unmade_value : (next : ℕ) (zones : Contents) (es : List Entity) (id : Id) (i : ℕ) (e : Entity) (slot : ℕ) → slot < 4

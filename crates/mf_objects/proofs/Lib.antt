@@ -26,3 +26,4 @@ pub mod ByteOrder
 pub mod Paths
 pub mod DescriptorLaws
 pub mod Laws
+pub mod FirstNames

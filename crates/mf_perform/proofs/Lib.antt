@@ -23,4 +23,6 @@ mod Suiting
 pub mod LabelsAlone
 mod PutBack
 mod LoweredBy
+mod Left
+mod ByOutline
 mod Ready

@@ -141,7 +141,7 @@ ok_tail : (tail : Tail) (p : Payload) → is_ok (tail_reply tail p) ≡ true →
 ok_tail Do p done = refl
 ok_tail (Refuse errno) p done = cc
 
-ok_proceeds : (plan : Plan) (denied : Option Denial) (p : Payload) → is_ok (reply_to plan denied p) ≡ true → plan.tail ≡ Do
+pub ok_proceeds : (plan : Plan) (denied : Option Denial) (p : Payload) → is_ok (reply_to plan denied p) ≡ true → plan.tail ≡ Do
 ok_proceeds plan None p done = ok_tail plan.tail p done
 ok_proceeds plan (Some denial) p done = cc
 

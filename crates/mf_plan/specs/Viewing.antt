@@ -43,3 +43,7 @@ pub record GrowsTo (old new : List SubjectView) : Type 0 where
 -- the subject while the caller has this value in the slot
 abbrev pub while_caller : ℕ → ℕ → LabelValue → SubjectView → SubjectView
 while_caller slot caller value subject = if subject.id == caller then with_slot slot value subject else subject
+
+-- the subject is another than the caller, or has this value in the slot already
+abbrev pub FindsItWith : ℕ → ℕ → LabelValue → SubjectView → Type 0
+FindsItWith slot caller value subject = while_caller slot caller value subject ≡ subject

@@ -35,4 +35,3 @@ pub use reply::{LabelPart, Loaded, Payload, Reply};
 pub use settings::asked_change;
 pub use state::State;
 pub use target::Target;
-pub use views::object_in;

@@ -89,7 +89,7 @@ fn is_subject(objects: &Objects, check: Check, subject: &SubjectView) -> bool
 }
 
 /// The object of a check, as policies see it.
-pub fn object_in(objects: &Objects, object: Option<Id>) -> Option<ObjectView>
+fn object_in(objects: &Objects, object: Option<Id>) -> Option<ObjectView>
     requires { IfSome object (λ id. IsSome (live_at objects.now id)) }
     ensures { result ≡ option_map (view_at objects.now) object }
 {

@@ -24,7 +24,7 @@ pub use lattice::{Lattice, errno_unless, lattice_answer, slot_label};
 pub use laws::{objects_get_no_range, subjects_stay_valid};
 pub use load_flags::{LoadFlags, flags_of};
 pub use loading::{LoadFault, UnloadFault, load_fault, registration_of, unload_fault};
-pub use lowering::{after_check, lowered, value_in};
+pub use lowering::{element_in, lower_by, lowers, value_in};
 pub use modules::{
     Facts, Labelling, boot_value, facts_of, inherited, is_named, labels_kind, may_ask,
     number_asked, range_asked, takes, wants_slot,

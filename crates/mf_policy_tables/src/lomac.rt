@@ -2,7 +2,7 @@
 
 use crate::asked::Level::{self, Equal, Grade, High, In, Low};
 use crate::asked::{Row, answers, element, labelled, object, subject, wants};
-use mf_elem::{Elem, LabelValue, Request};
+use mf_elem::{Elem, Request};
 use mf_errno::Errno::{self, Eacces, Eperm, Success};
 use mf_item::CheckOp::{
     self, CredRelabel, KldLoad, ProcDebug, ProcSched, ProcSignal, ProcVisible, SocketDeliver,
@@ -10,7 +10,7 @@ use mf_item::CheckOp::{
 };
 use mf_item::{Item, Kind};
 use mf_lomac::Lomac;
-use mf_policy::{Policy, after_check, lowered};
+use mf_policy::{Policy, lower_by, lowers};
 
 /// It reads everything and writes down.
 const RULES: &[Row] = &[
@@ -102,9 +102,14 @@ const REMAINS: &[(Level, Level, Level)] = &[
     (High, Equal, High),
 ];
 
-/// Whether that remains.
+/// Whether that remains, and the answer says whether it is another.
 fn remains(subject: &Level, object: &Level, wanted: &Level) -> bool {
-    lowered(&element(subject), &element(object)) == element(wanted)
+    let [own, _, _, _] = labelled(element(subject));
+    let [other, _, _, _] = labelled(element(object));
+    let [left, _, _, _] = labelled(element(wanted));
+    let mut value = own;
+    let is_lowered = lower_by(&mut value, &other);
+    value == left && is_lowered == (own != left)
 }
 
 #[test]
@@ -114,43 +119,33 @@ fn what_remains_of_an_element(rt: HostRuntime) {
     }
 }
 
-/// What is left of `high` in slot 0 after the check of a file that is low.
-fn left_by(op: CheckOp) -> LabelValue {
-    let subject = subject(labelled(Elem::High));
-    let object = object(Kind::Vnode, labelled(Elem::Low));
-    let own = subject.label[0];
-    let item = Item::new(op, &subject, Some(&object), None, None, None);
-    after_check(0, &own, &item)
-}
-
-/// Operations, and what each leaves.
-const LEFT: &[(CheckOp, Elem)] = &[
-    (CheckOp::VnodeLookup, Elem::Low),
-    (CheckOp::VnodeReaddir, Elem::Low),
-    (CheckOp::VnodeOpenRead, Elem::Low),
-    (CheckOp::VnodeRead, Elem::Low),
-    (CheckOp::VnodeExec, Elem::Low),
-    (CheckOp::VnodeStat, Elem::Low),
-    (CheckOp::PipeRead, Elem::Low),
-    (CheckOp::PipeStat, Elem::Low),
-    (CheckOp::SocketReceive, Elem::Low),
-    (CheckOp::ProcDebug, Elem::Low),
-    (CheckOp::VnodeOpenWrite, Elem::High),
-    (CheckOp::VnodeCreate, Elem::High),
-    (CheckOp::VnodeUnlink, Elem::High),
-    (CheckOp::VnodeRelabel, Elem::High),
-    (CheckOp::PipeWrite, Elem::High),
-    (CheckOp::SocketDeliver, Elem::High),
-    (CheckOp::SocketVisible, Elem::High),
-    (CheckOp::ProcVisible, Elem::High),
-    (CheckOp::ProcSignal, Elem::High),
-    (CheckOp::Priv, Elem::High),
+/// Operations, and whether each lowers who asks for it.
+const LOWERS: &[(CheckOp, bool)] = &[
+    (CheckOp::VnodeLookup, true),
+    (CheckOp::VnodeReaddir, true),
+    (CheckOp::VnodeOpenRead, true),
+    (CheckOp::VnodeRead, true),
+    (CheckOp::VnodeExec, true),
+    (CheckOp::VnodeStat, true),
+    (CheckOp::PipeRead, true),
+    (CheckOp::PipeStat, true),
+    (CheckOp::SocketReceive, true),
+    (CheckOp::ProcDebug, true),
+    (CheckOp::VnodeOpenWrite, false),
+    (CheckOp::VnodeCreate, false),
+    (CheckOp::VnodeUnlink, false),
+    (CheckOp::VnodeRelabel, false),
+    (CheckOp::PipeWrite, false),
+    (CheckOp::SocketDeliver, false),
+    (CheckOp::SocketVisible, false),
+    (CheckOp::ProcVisible, false),
+    (CheckOp::ProcSignal, false),
+    (CheckOp::Priv, false),
 ];
 
 #[test]
 fn who_learns_is_lowered(rt: HostRuntime) {
-    for (op, left) in LEFT {
-        let [wanted, _, _, _] = labelled(*left);
-        wants(&rt, op.name(), left_by(*op) == wanted);
+    for (op, wanted) in LOWERS {
+        wants(&rt, op.name(), lowers(*op) == *wanted);
     }
 }

@@ -47,7 +47,7 @@ writes_zone slabs i old new k v within is up =
       ];
     }
 
-at_zone : (slabs : List (Slab LabelValue)) (i : ℕ) (zone : Slab LabelValue) (k : ℕ) → i < length slabs → get_or slabs i zone ≡ zone → under (seen slabs) i k ≡ get zone k
+pub at_zone : (slabs : List (Slab LabelValue)) (i : ℕ) (zone : Slab LabelValue) (k : ℕ) → i < length slabs → get_or slabs i zone ≡ zone → under (seen slabs) i k ≡ get zone k
 at_zone slabs i zone k within is =
     ap (λ (z : List (Option LabelValue)). get_or z k None) (seen_at slabs i zone within ∙ ap (λ (s : Slab LabelValue). s.slots) is)
 

@@ -1,5 +1,5 @@
 //! Zones of label values over slabs, whose keys are the handles that labels hold.
-ghost use Rattle.std.specs.Prelude.{◌≡◌, ◌≢◌, ◌<◌, ◌≤◌, ◌↔◌, [], ◌∷◌, Some, None, OnOk, OnErr, IfOk, IsOk, IsTrue, IsSome, replicate, ℕ};
+ghost use Rattle.std.specs.Prelude.{◌≡◌, ◌≢◌, ◌<◌, ◌≤◌, ◌↔◌, [], ◌∷◌, Some, None, OnOk, OnErr, IfOk, IsOk, IsTrue, IsSome, replicate, option_copied, unwrap_or, ℕ};
 ghost use Rattle.mf_elem.specs.declared.label.TheConstants.{SLOTS};
 ghost use Rattle.slab.specs.Slab.{slab_len};
 ghost use Rattle.mf_slots.specs.Zones.{IsHeld, IsIn, IsMadeAt, IsHeldAt, Makes, MakesLabel, SetsAt, Frees, GivesUp, handle, held_in, value_under, slot_value, value_for, label_values, given, given_to, Adds, Updates, Relabels, Rewrites, AreMade, IsMadeFor, HasRoomForOne, HasRoomToWrite, value_count};
@@ -174,6 +174,17 @@ impl Zones {
             Some(key) => self.under(slot, key),
             None => LabelValue::Unset,
         }
+    }
+
+    /// What a slot holds, where it is made. It isn't copied.
+    pub fn value_ref(&self, label: &Label, slot: u8) -> Option<&LabelValue>
+        ensures value { unwrap_or (option_copied result) Unset
+            ≡ slot_value self.now label.now slot }
+        ensures set { option_copied result ≢ Some Unset }
+        ensures slot { IsSome (option_copied result) → slot < SLOTS }
+    {
+        let key = (*label.handles.get(slot as usize)?)?;
+        self.zones.get(slot as usize)?.get(key)
     }
 
     /// Whether these are the values of the label's slots, of which none is copied.

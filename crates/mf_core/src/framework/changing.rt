@@ -56,7 +56,7 @@ impl<'s> Core<'s> {
             return Ok(Commit::Stale);
         }
         let reply = self.reply(alloc, task, plan, &outline.found, verdict)?;
-        self.commit(alloc, task, &outline.found, reply)?;
+        self.commit(alloc, task, &outline, reply)?;
         Ok(Commit::Done)
     }
 
@@ -131,19 +131,19 @@ impl<'s> Core<'s> {
         self.run.reply(alloc, task, plan, found, verdict)
     }
 
-    /// Commits the call that the task has entered for, with this reply to it. The error is want of memory; then nothing changes.
+    /// Commits the call that the task has entered for, with this reply to it; the outline is that of the call. The error is want of
+    /// memory; then nothing changes.
     pub fn commit(
         &mut self,
         alloc: Global,
         task: u32,
-        found: &Found,
+        outline: &Outline,
         reply: KeptReply,
     ) -> Result<(), AllocError>
         requires task { task < length self.old.script.tasks }
         requires turn { turn_at self.old task ≡ turn.Entered }
         requires reply { next_reply self.old.script (run_state self.old) task ≡ Some reply }
-        requires found { is_ok reply ≡ true
-            → IsNextFound self.old.script (run_state self.old) task found.now }
+        requires outline { IsNextOutline self.old.script (run_state self.old) task outline.now }
         ensures event { OnOk result (self.new ≡ with_next self.old
             (event.Done task (next_number (run_state self.old) task) reply)) }
         ensures progress { OnOk result
@@ -155,12 +155,12 @@ impl<'s> Core<'s> {
         ensures memory { is_ok reply ≡ false → IsOk result }
     {
         let number = self.run.lines(task) + 1;
-        self.run.commit(alloc, task, number, found, &reply)?;
+        self.run.commit(alloc, task, number, outline, &reply)?;
         self.history.events.push(Event::Done(task, number, reply));
         Ok(())
     }
 
-    /// Makes the change of the task's next line. While entries are open nothing changes, and the result is `Waits` with
+    /// Makes the change of the task's next line, with `plan` as the room of its plan. While entries are open nothing changes, and the result is `Waits` with
     /// their number. The lists and the catalogue must be those that came with this core. If memory runs out, nothing
     /// changes. A change that is denied or refused takes no memory.
     pub fn change<P: Policy>(
@@ -170,6 +170,7 @@ impl<'s> Core<'s> {
         fixed: &Fixed<P>,
         list: &mut PolicyList<P>,
         catalogue: &mut Catalogue<P>,
+        plan: &mut Plan,
     ) -> Result<ChangeOutcome, AllocError>
         requires task { task < length self.old.script.tasks }
         requires turn { turn_at self.old task ≡ turn.Change }
@@ -194,7 +195,7 @@ impl<'s> Core<'s> {
             return Ok(ChangeOutcome::Waits(waiting));
         }
         let walked = Listed::new(fixed, list);
-        let reply = self.run.change_reply(alloc, task, &walked)?;
+        let reply = self.run.change_reply(alloc, task, &walked, plan)?;
         let listed = self
             .run
             .relisted(alloc, task, &reply, fixed, list, catalogue)?;

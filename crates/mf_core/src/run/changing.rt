@@ -49,13 +49,14 @@ impl<'s> Run<'s> {
         Ok(())
     }
 
-    /// The reply to the change of the task's next line. The listed policies must be those of the state. A change that is
-    /// denied or refused takes no memory.
+    /// The reply to the change of the task's next line, by its plan, whose room is `plan`. The listed policies must be those of the
+    /// state. A change that is denied or refused takes no memory.
     pub(crate) fn change_reply<P: Policy>(
         &self,
         alloc: Global,
         task: u32,
         list: &Listed<'_, P>,
+        plan: &mut Plan,
     ) -> Result<KeptReply, AllocError>
         requires task { task < length self.now.script.tasks }
         requires line { IsSome (next_line self.now.script self.now.run.progress task) }
@@ -65,11 +66,10 @@ impl<'s> Run<'s> {
         ensures memory { (reply : Reply) → next_reply self.now.script self.now.run task ≡ Some reply
             → is_ok reply ≡ false → IsOk result }
     {
-        let mut plan = Plan::new();
         let mut outline = Outline::new();
-        self.plan(task, &mut plan, &mut outline);
-        let verdict = verdict_of(list, &plan);
-        self.reply(alloc, task, &plan, &outline.found, &verdict)
+        self.plan(task, plan, &mut outline);
+        let verdict = verdict_of(list, plan);
+        self.reply(alloc, task, plan, &outline.found, &verdict)
     }
 
     /// What the task's next line changes of the policies, and the listed specs after it, where it is done with this reply. The

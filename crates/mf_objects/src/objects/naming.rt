@@ -1,9 +1,13 @@
 //! Entry names of directories, and titles of entities.
-ghost use Rattle.std.specs.Prelude.{◌≡◌, ◌++◌, IfOk, OnOk, OnErr, IsSome, map, filter, reverse, codes, string_bytes};
+ghost use Rattle.std.specs.Prelude.{◌≡◌, ◌≤◌, ◌++◌, IfOk, OnOk, OnErr, IsSome, length, map, filter, take, reverse, codes, string_bytes};
+ghost use Rattle.std.specs.List.{position_or_len};
+ghost use Rattle.std.specs.List.Sorted.{IsSorted};
+ghost use Rattle.std.specs.Ordering.{nat_cmp};
+ghost use Rattle.std.specs.Cmp.Lexicographic.{slice_cmp};
 ghost use Rattle.mf_objects.specs.Live as live;
 ghost use Rattle.mf_objects.specs.Lives.{is_directory, IsLive};
 ghost use Rattle.mf_objects.specs.Titles as title;
-ghost use Rattle.mf_objects.specs.Names.{IsFirstNames, IsAppended, prefix_of, own_name};
+ghost use Rattle.mf_objects.specs.Names.{IsFirstNames, IsAppended, comes_first, with_name, prefix_of, own_name};
 ghost use Rattle.mf_objects.specs.Sound.{unlabelled, IsById};
 
 use super::{Objects, place_of};
@@ -21,9 +25,7 @@ impl Objects {
         ensures first { IfOk result
             (λ names. IsFirstNames names (title.entry_names dir self.now.live)) }
     {
-        let mut names = entry_names(alloc, &self.entities, dir)?;
-        names.sort_unstable();
-        names.truncate(MOST_NAMES);
+        let names = entry_names(alloc, &self.entities, dir)?;
         listed(alloc, &names)
     }
 
@@ -48,7 +50,7 @@ impl Objects {
     }
 }
 
-/// The names of a directory's entries by rising id.
+/// The first names in byte order of a directory's entries.
 fn entry_names<'a>(
     alloc: Global,
     entities: &'a [Entity],
@@ -56,15 +58,43 @@ fn entry_names<'a>(
 ) -> Result<Vec<&'a str>, AllocError>
     ensures { IfOk result
         (λ names. map (λ name. name.now) names.items
-        ≡ map (λ e. e.name) (filter (λ e. live.is_entry dir e.what) entities.now)) }
+        ≡ take MOST_NAMES (title.in_byte_order (map (λ e. e.name)
+        (filter (λ e. live.is_entry dir e.what) entities.now)))) }
 {
     let mut names = Vec::with_capacity(alloc, MOST_NAMES)?;
     for entity in entities {
         if entity.is_entry(dir) {
-            names.push(entity.name.as_str())?;
+            keep_first(entity.name.as_str(), &mut names)?;
         }
     }
     Ok(names)
+}
+
+/// Puts a name in its place among the first names, which are in byte order, where it is one of them.
+fn keep_first<'a>(name: &'a str, names: &mut Vec<&'a str>) -> Result<(), AllocError>
+    requires sorted { IsSorted (slice_cmp nat_cmp) (map (λ n. n.now) names.old.items) }
+    requires few { length names.old.items ≤ MOST_NAMES }
+    ensures { OnOk result (map (λ n. n.now) names.new.items
+        ≡ take MOST_NAMES (with_name name.now (map (λ n. n.now) names.old.items))) }
+{
+    let place = place_of_name(name, names.as_slice());
+    if place < MOST_NAMES {
+        names.truncate(MOST_NAMES - 1);
+        names.insert(place, name)?;
+    }
+    Ok(())
+}
+
+/// The place of a name among names in byte order: behind those that are before it.
+fn place_of_name(name: &str, names: &[&str]) -> usize
+    requires { IsSorted (slice_cmp nat_cmp) (map (λ n. n.now) names.now) }
+    ensures { result ≡ position_or_len (comes_first name.now) (map (λ n. n.now) names.now) }
+{
+    let mut place = names.len();
+    while place > 0 && name <= names[place - 1] {
+        place -= 1;
+    }
+    place
 }
 
 /// A list of these names.

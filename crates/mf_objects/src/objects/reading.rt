@@ -1,9 +1,10 @@
 //! Readings of the live entities. A reader of another kind's data gives nothing, or zeros: `head` of a process has no
 //! bytes.
-ghost use Rattle.std.specs.Prelude.{◌≡◌, ◌↔◌, IsTrue, ◌≢◌, ◌≤◌, ◌<◌, length, find, count_by, option_map, nat_le, [], false, Some, IsSome, IfSome, IfNone, All, slice_index_or};
+ghost use Rattle.std.specs.Prelude.{◌≡◌, ◌↔◌, IsTrue, ◌≢◌, ◌≤◌, ◌<◌, length, find, count_by, option_map, nat_le, [], false, option_copied, unwrap_or, Some, IsSome, IfSome, IfNone, All, slice_index_or};
 ghost use Rattle.mf_names.specs.declared.limits.TheConstants.{CONTENT_LIMIT};
 ghost use Rattle.mf_objects.specs.declared.limits.TheConstants.{MOST_ENTITIES};
 ghost use Rattle.mf_elem.specs.declared.label.TheConstants.{SLOTS};
+ghost use Rattle.mf_elem.specs.declared.label.LabelValue.TheVariants.{Unset};
 ghost use Rattle.mf_slots.specs.Zones.{label_values};
 ghost use Rattle.mf_objects.specs.Head.{head_of};
 ghost use Rattle.mf_objects.specs.Live as live;
@@ -213,6 +214,17 @@ impl Objects {
     {
         let place = self.place(id);
         self.zones.value(&self.entities[place].label, slot)
+    }
+
+    /// What a slot of the entity's label holds, where it is made. It isn't copied.
+    pub fn value_ref(&self, id: Id, slot: u8) -> Option<&LabelValue>
+        requires { IsSome (live.live_at self.now id) }
+        ensures value { unwrap_or (option_copied result) Unset ≡ value_at self.now id slot }
+        ensures set { option_copied result ≢ Some Unset }
+        ensures slot { IsSome (option_copied result) → slot < SLOTS }
+    {
+        let place = self.place(id);
+        self.zones.value_ref(&self.entities[place].label, slot)
     }
 
     /// How many live entities have the slot made.

@@ -13,14 +13,14 @@ payload_of-requires-clause-found c =
     let done = may_proceed c.args.plan.now c.args.verdict.now.denied (λ p. c.refusal_of.ensures.reply p ∙ ap (λ (o : Option Reply). refused_or o p) c.in_default.is) in
     (c.args.task.now, c.args.line.now.child, c.requires.found done)
 
-pub returns-in-Some-clause-reply : goal.returns-in-Some-clause-reply
-returns-in-Some-clause-reply c =
+pub returns-in-Some : goal.returns-in-Some
+returns-in-Some c =
     let p : Payload = (call_row c.args.state.now c.args.task.now c.args.line.now.child c.args.line.now.call).payload in
     sym (c.refusal_of.ensures.reply p ∙ ap (λ (o : Option Reply). refused_or o p) c.in-Some.is)
     ∙ by_call c.args.state.now c.args.task.now c.args.line.now.child c.args.line.now.call c.args.plan.now c.args.verdict.now c.requires.plan c.requires.verdict
 
-pub returns-clause-reply : goal.returns-clause-reply
-returns-clause-reply c =
+pub returns : goal.returns
+returns c =
     let s = c.args.state.now in
     let task = c.args.task.now in
     let child = c.args.line.now.child in
@@ -30,7 +30,3 @@ returns-clause-reply c =
     let found = c.requires.found (may_proceed c.args.plan.now c.args.verdict.now.denied ends) in
     ap (λ (q : Payload). reply.Ok q) (c.in_ok-payload.ensures.value task child found)
     ∙ sym (ends p) ∙ by_call s task child call c.args.plan.now c.args.verdict.now c.requires.plan c.requires.verdict
-
-pub returns-clause-found : goal.returns-clause-found
-returns-clause-found c =
-    λ done. c.requires.found (may_proceed c.args.plan.now c.args.verdict.now.denied (λ p. c.refusal_of.ensures.reply p ∙ ap (λ (o : Option Reply). refused_or o p) c.in_default.is))

@@ -7,7 +7,7 @@ use Rattle.mf_core.specs.Progress.{progress_at}
 use Rattle.mf_core.proofs.Calls.{entry_specs}
 use Rattle.mf_core.proofs.Consistency.{room_for}
 use Rattle.mf_core.proofs.Counts.{committed_done, committed_open}
-use Rattle.mf_core.proofs.Insides.{consistent_here, consistent_on, event_on, found_same, moves_on, reply_same, run_state_here, specs_on, turn_here}
+use Rattle.mf_core.proofs.Insides.{consistent_here, consistent_on, event_on, moves_on, outline_here, reply_same, run_state_here, specs_on, turn_here}
 use Rattle.mf_core.proofs.framework.Core.commit.Goals as goal
 
 pub commit-requires-clause-may : goal.commit-requires-clause-may
@@ -17,9 +17,9 @@ commit-requires-clause-may c = (
   sym (reply_same c.args.self.now c.self.inside.run c.self.inside.history c.self.view_is c.self.invariant c.args.task) ∙ c.requires.reply,
 )
 
-pub commit-requires-clause-found : goal.commit-requires-clause-found
-commit-requires-clause-found c = λ done.
-    found_same c.args.self.now c.self.inside.run c.self.inside.history c.self.view_is c.self.invariant c.args.task c.args.found.now (c.requires.found done)
+pub commit-requires-clause-outline : goal.commit-requires-clause-outline
+commit-requires-clause-outline c =
+    outline_here c.args.self.now c.self.inside.run c.self.inside.history c.self.view_is c.self.invariant c.args.task c.args.outline.now c.requires.outline
 
 pub push-requires : goal.push-requires
 push-requires c =

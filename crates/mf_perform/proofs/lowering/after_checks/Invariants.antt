@@ -1,8 +1,0 @@
-use Rattle.std.proofs.Common.{◌≡◌, Option, map, take}
-use Rattle.mf_elem.specs.declared.label.Request.{Request}
-use Rattle.mf_policy.specs.Lowering.{after_checks}
-use Rattle.mf_plan.specs.Outline.{item_asking}
-use Rattle.mf_perform.proofs.lowering.after_checks.Given as goal
-
-abbrev pub invariant-loop-check : goal.invariant-loop-check
-invariant-loop-check l = (asked : Option Request) → l.value ≡ after_checks l.slot l.fn.own (map (item_asking l.objects asked) (take l.check-index l.checks))
