@@ -37,7 +37,7 @@ use Rattle.mf_core.specs.declared.history.Event.{Event}
 use Rattle.mf_core.specs.declared.history.Event.TheVariants as event
 use Rattle.mf_core.specs.Progress.{progress_at}
 use Rattle.mf_core.specs.LegalHistory.{RunState, next_line, MayCome, run_after}
-use Rattle.mf_core.specs.NextFound.{FoundAt, IsNextFound}
+use Rattle.mf_core.specs.NextFound.{FoundAt, IsNextFound, IsNextOutline, OutlineAt}
 use Rattle.mf_core.proofs.SameLists.{done_tail}
 use Rattle.mf_perform.specs.Passed.{passed}
 use Rattle.mf_flow.specs.declared.following.Flow.{Flow}
@@ -259,15 +259,14 @@ done_ends s run e t number said state task line is may here task_is line_is done
     ap (λ (x : State). (plan_of x task line.child line.call).tail) here ∙ ap (λ (x : List ℕ). (plan_of run.state x line.child line.call).tail) task_is
     ∙ done_tail run.state (name_of s t) line.child line.call said same done
 
--- what a call that is done is about was found as its plan was made
-pub done_found : (s : Script) (run : RunState) (e : Event) (t number : ℕ) (said : Reply) (state : State) (task : List ℕ) (line : Line) (found : Found) → e ≡ event.Done t number said → MayCome s run e
+-- the outline of the call is that of the task's next
+pub done_outline : (s : Script) (run : RunState) (t : ℕ) (state : State) (task : List ℕ) (line : Line) (outline : Outline)
     → state ≡ run.state → task ≡ name_of s t → next_line s run.progress t ≡ Some line
-    → ((plan_of state task line.child line.call).tail ≡ Do → AreFound state task line.child line.call found) → is_ok said ≡ true → IsNextFound s run t found
-done_found s run e t number said state task line found is may here task_is line_is found_is done =
-    let found_here : AreFound run.state (name_of s t) line.child line.call found =
-    subst (λ (x : List ℕ). AreFound run.state x line.child line.call found) task_is
-    (subst (λ (x : State). AreFound x task line.child line.call found) here (found_is (done_ends s run e t number said state task line is may here task_is line_is done))) in
-    subst (λ (l : Option Line). FoundAt s run t l found) (sym line_is) found_here
+    → IsOutlineOf state task line.child line.call outline → IsNextOutline s run t outline
+done_outline s run t state task line outline here task_is line_is is =
+    subst (λ (l : Option Line). OutlineAt s run t l outline) (sym line_is)
+    (subst (λ (x : List ℕ). IsOutlineOf run.state x line.child line.call outline) task_is
+    (subst (λ (x : State). IsOutlineOf x task line.child line.call outline) here is))
 
 -- and so was what it asks of whose label
 pub done_asked : (s : Script) (run : RunState) (e : Event) (t number : ℕ) (said : Reply) (state : State) (task : List ℕ) (line : Line) (found : Found)

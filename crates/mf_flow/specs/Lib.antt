@@ -1,7 +1,7 @@
 pub mod Dominated
 pub mod Laws
-pub mod Numbers
 pub mod Order
+pub mod Listed
 pub mod Rows
 pub mod Sources
 pub mod SourcesText

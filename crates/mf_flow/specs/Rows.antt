@@ -95,6 +95,11 @@ rows_by slot objects rows check = rows_moved slot objects rows (item_of objects 
 abbrev pub rows_counted : Registration → State → Option Fd → Rows → Check → Rows
 rows_counted r s fd rows check = if counts r s.specs fd (item_of s.objects check) then rows_by (slot_of r) s.objects rows check else rows
 
+-- the effective element of an entity, where there is one
+abbrev pub element_first : ℕ → Option LiveEntity → Option Elem
+element_first slot None = None
+element_first slot (Some e) = element_of slot e.label
+
 -- the row of an entity that comes, made by a process with these sources
 abbrev pub new_row : ℕ → Option LiveEntity → List Elem → List Elem
 new_row slot None maker = []

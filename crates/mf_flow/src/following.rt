@@ -1,5 +1,5 @@
 //! The sources after each event of a history, and after each call that is committed.
-ghost use Rattle.std.specs.Prelude.{◌≡◌, ◌<◌, None, IfOk, OnOk, find, map};
+ghost use Rattle.std.specs.Prelude.{◌≡◌, ◌<◌, OnOk, find, map, option_map};
 ghost use Rattle.std.specs.List.{AllByRecursion};
 ghost use Rattle.std.specs.Option.{option_copied, option_zip};
 ghost use Rattle.mf_elem.specs.declared.label.TheConstants.{SLOTS};
@@ -10,12 +10,9 @@ ghost use Rattle.mf_calls.specs.WellFormed.{IsFormedLine, IsName, IsWellFormed};
 ghost use Rattle.mf_perform.specs.Passed.{passed};
 ghost use Rattle.mf_core.specs.declared.history.Event.TheVariants as events;
 ghost use Rattle.mf_core.specs.LegalHistory.{run_after, MayCome};
-ghost use Rattle.mf_flow.specs.Order.{union};
 ghost use Rattle.mf_flow.specs.Rows as spec;
-ghost use Rattle.mf_flow.specs.Sources.{own_source, held_by};
 ghost use Rattle.mf_flow.specs.Transfers.{descriptor_of};
 
-use crate::elem_set::ElemSet;
 use crate::moving::move_all;
 use crate::relabelling::give;
 use crate::set_list::{SetList, sweep};
@@ -132,7 +129,7 @@ fn follow_call(
         .make(state, name, child, &line.call, &space.last);
     let outline = &space.outline;
     move_passed(alloc, state, name, line, outline, reply, flows)?;
-    run.commit(alloc, task, number, &outline.found, reply)?;
+    run.commit(alloc, task, number, outline, reply)?;
     let objects = &run.state().objects;
     settle_each(alloc, next, objects, &outline.found, reply.is_ok(), flows)
 }
@@ -252,50 +249,27 @@ fn create(
     ensures { OnOk result (sets.new ≡ spec.rows_created slot next objects.now caller sets.old) }
 {
     if next < objects.next_id() {
-        let set = new_sources(alloc, slot, objects, next, maker_sources(sets, caller))?;
-        sets.push(set)?;
+        sets.push(alloc, own_at(objects, slot, next), number_of(caller))?;
     }
     Ok(())
 }
 
-fn maker_sources(sets: &SetList, maker: Option<Id>) -> &[Elem]
-    ensures { result.now ≡ spec.maker_row sets.now maker }
+fn number_of(id: Option<Id>) -> Option<u32>
+    ensures { result ≡ option_map (λ i. i.0) id }
 {
-    match maker {
-        None => &[],
-        Some(id) => sets.at(id.number()),
+    match id {
+        None => None,
+        Some(id) => Some(id.number()),
     }
 }
 
-/// The sources that the first live entity from that number on begins with: its own element, and its maker's sources. None where there is no
-/// such entity.
-pub fn new_sources(
-    alloc: Global,
-    slot: u8,
-    objects: &Objects,
-    next: u32,
-    maker: &[Elem],
-) -> Result<ElemSet, AllocError>
+/// The effective element of the first live entity from that number on.
+pub fn own_at(objects: &Objects, slot: u8, next: u32) -> Option<Elem>
     requires { slot < SLOTS }
-    ensures { IfOk result (λ set. set ≡ spec.new_row slot
-        (find (is_from next) objects.now.live) maker.now) }
+    ensures { result ≡ spec.element_first slot (find (is_from next) objects.now.live) }
 {
     match objects.least_from(next) {
-        None => Ok(ElemSet::new(alloc)),
-        Some(id) => first_sources(alloc, slot_label(&objects.value(id, slot)).effective, maker),
-    }
-}
-
-/// A new party's own element, and its maker's sources.
-pub fn first_sources(
-    alloc: Global,
-    element: Option<Elem>,
-    maker: &[Elem],
-) -> Result<ElemSet, AllocError>
-    ensures { IfOk result (λ set. set ≡ held_by element (union (own_source element) maker.now)) }
-{
-    match element {
-        None | Some(Elem::Equal) => Ok(ElemSet::new(alloc)),
-        Some(own) => ElemSet::of_either(alloc, &[own], maker),
+        None => None,
+        Some(id) => slot_label(&objects.value(id, slot)).effective,
     }
 }

@@ -1,5 +1,5 @@
 //! What the checks of a call move.
-ghost use Rattle.std.specs.Prelude.{◌≡◌, ◌<◌, filter, fold, map, unwrap_or, IfOk, OnOk};
+ghost use Rattle.std.specs.Prelude.{◌≡◌, ◌<◌, filter, fold, map, OnOk};
 ghost use Rattle.std.specs.Option.{option_copied};
 ghost use Rattle.mf_elem.specs.declared.label.TheConstants.{SLOTS};
 ghost use Rattle.mf_plan.specs.Outline.{item_of};
@@ -9,7 +9,6 @@ ghost use Rattle.mf_flow.specs.Rows as rows;
 ghost use Rattle.mf_flow.specs.Transfers.{counts};
 
 use crate::effective::element_at;
-use crate::elem_set::{ElemSet, has_all};
 use crate::set_list::SetList;
 use crate::transfers::counts;
 use mf_elem::Elem;
@@ -31,27 +30,6 @@ pub fn may_come(objects: &Objects, slot: u8, to: u32, from: u32) -> bool
     }
 }
 
-/// The new set of a party to which these elements come from another, where it gets another.
-fn joined(
-    alloc: Global,
-    slot: u8,
-    objects: &Objects,
-    to: u32,
-    from: u32,
-    set: &[Elem],
-    given: &[Elem],
-) -> Result<Option<ElemSet>, AllocError>
-    requires { slot < SLOTS }
-    ensures { IfOk result (λ new. unwrap_or new set.now
-        ≡ rows.set_joined slot objects.now to from set.now given.now) }
-{
-    if has_all(set, given) || !may_come(objects, slot, to, from) {
-        return Ok(None);
-    }
-    let both = ElemSet::of_either(alloc, set, given)?;
-    Ok(Some(both))
-}
-
 /// The sources of one party come to another. Each check that moves goes through here.
 #[inline(always)]
 fn receive(
@@ -66,12 +44,13 @@ fn receive(
     ensures { OnOk result (sets.new ≡ rows.set_received slot objects.now sets.old to from
         (rows.set_at sets.old from)) }
 {
-    if has_all(sets.at(to), sets.at(from)) {
+    if sets.has_all(to, from) {
         return Ok(());
     }
-    let new = joined(alloc, slot, objects, to, from, sets.at(to), sets.at(from))?;
-    sets.put(to, new);
-    Ok(())
+    if !may_come(objects, slot, to, from) {
+        return Ok(());
+    }
+    sets.join(alloc, to, from)
 }
 
 /// The sources of each of two parties come to the other: to each those that the other had before.
@@ -86,19 +65,16 @@ fn exchange(
     requires { slot < SLOTS }
     ensures { OnOk result (sets.new ≡ rows.exchanged slot objects.now sets.old subject object) }
 {
-    let before = sets.copy_of(alloc, subject)?;
-    receive(alloc, slot, objects, sets, subject, object)?;
-    let new = joined(
-        alloc,
-        slot,
-        objects,
-        object,
-        subject,
-        sets.at(object),
-        before.as_slice(),
-    )?;
-    sets.put(object, new);
-    Ok(())
+    if sets.has_all(subject, object) && sets.has_all(object, subject) {
+        return Ok(());
+    }
+    if !may_come(objects, slot, object, subject) {
+        return receive(alloc, slot, objects, sets, subject, object);
+    }
+    if !may_come(objects, slot, subject, object) {
+        return receive(alloc, slot, objects, sets, object, subject);
+    }
+    sets.exchange(alloc, subject, object)
 }
 
 /// What the check of an operation moves between its parties.

@@ -1,15 +1,14 @@
 //! What a relabel makes of the sources.
-ghost use Rattle.std.specs.Prelude.{◌≡◌, ◌<◌, None, IfOk, OnOk};
+ghost use Rattle.std.specs.Prelude.{◌≡◌, ◌<◌, None, OnOk};
 ghost use Rattle.std.specs.Option.{option_zip};
 ghost use Rattle.mf_elem.specs.declared.label.TheConstants.{SLOTS};
 ghost use Rattle.mf_perform.specs.OneCall.{after_reply};
 ghost use Rattle.mf_flow.specs.Rows.{where_done, rows_given};
-ghost use Rattle.mf_flow.specs.Sources.{own_source, has_element as has_element_for};
+ghost use Rattle.mf_flow.specs.Sources.{has_element as has_element_for};
 
 use crate::effective::element_at;
-use crate::elem_set::ElemSet;
 use crate::set_list::SetList;
-use mf_elem::{Elem, Request};
+use mf_elem::Request;
 use mf_errno::Module;
 use mf_objects::{Id, Objects};
 use mf_plan::{Found, Outline, Reply};
@@ -44,9 +43,7 @@ pub fn give(
     match (is_done, found.target, &found.request) {
         (true, Some(id), Some(request)) if has_element(module, request) => {
             let element = element_at(objects, slot, id.number());
-            let set = own_source(alloc, element)?;
-            sets.put(id.number(), Some(set));
-            Ok(())
+            sets.restart(alloc, id.number(), element)
         }
         _ => Ok(()),
     }
@@ -59,15 +56,5 @@ pub fn has_element(module: Module, request: &Request) -> bool
     match range_asked(module, request) {
         None => false,
         Some(label) => label.effective.is_some(),
-    }
-}
-
-/// A party's element, as its only source. One labelled equal has none.
-fn own_source(alloc: Global, element: Option<Elem>) -> Result<ElemSet, AllocError>
-    ensures { IfOk result (λ set. set ≡ own_source element) }
-{
-    match element {
-        None | Some(Elem::Equal) => Ok(ElemSet::new(alloc)),
-        Some(own) => ElemSet::one(alloc, own),
     }
 }

@@ -17,7 +17,7 @@ ghost use Rattle.mf_flow.specs.Sources.{Sets};
 ghost use Rattle.mf_flow.specs.Table as spec;
 
 use crate::elem_set::ElemSet;
-use crate::following::{Flow, Workspace, follow, new_sources};
+use crate::following::{Flow, Workspace, follow, own_at};
 use crate::set_list::SetList;
 use mf_calls::Script;
 use mf_core::{BootList, History, Run};
@@ -190,8 +190,7 @@ fn own_sources(alloc: Global, slot: u8, objects: &Objects) -> Result<SetList, Al
     let mut sets = SetList::new(alloc);
     let _live = objects.live();
     for number in 0..objects.next_id() {
-        let set = new_sources(alloc, slot, objects, number, &[])?;
-        sets.push(set)?;
+        sets.push(alloc, own_at(objects, slot, number), None)?;
     }
     Ok(sets)
 }
@@ -237,7 +236,7 @@ fn sources_row(
     let mut text = String::with_capacity(alloc, TITLE_ROOM)?;
     objects.title(id, &mut text)?;
     let title = Name::from_string(text);
-    let elements = sets.copy_of(alloc, id.number())?;
+    let elements = sets.list_of(alloc, id.number())?;
     Ok(Row {
         module,
         id,

@@ -45,6 +45,8 @@ pub struct TrackedCore<'s> {
     outline: Outline,
     /// The task whose call was planned last, until the next plan, commit or event: the outline is that of its call.
     planned: Option<u32>,
+    /// The plan of the last change, whose room is used again.
+    change: Plan,
 }
 
 impl<'s> Model for TrackedCore<'s> {
@@ -79,6 +81,7 @@ impl<'s> TrackedCore<'s> {
             is_tracked,
             outline: Outline::new(),
             planned: None,
+            change: Plan::new(),
         })
     }
 
@@ -263,7 +266,8 @@ impl<'s> TrackedCore<'s> {
             → is_ok reply ≡ false → IsOk result }
     {
         self.planned = None;
-        let outcome = self.core.change(alloc, task, fixed, list, catalogue);
+        let plan = &mut self.change;
+        let outcome = self.core.change(alloc, task, fixed, list, catalogue, plan);
         let _history = self.core.history();
         outcome
     }
@@ -354,7 +358,7 @@ fn commit(
         flows,
     );
     *is_tracked = false;
-    core.commit(alloc, task, &outline.found, reply)?;
+    core.commit(alloc, task, outline, reply)?;
     let _after = core.history();
     let objects = &core.state().objects;
     *is_tracked = note_rest(

@@ -9,10 +9,11 @@ use Rattle.mf_plan.specs.Names.{caller_name}
 use Rattle.mf_plan.specs.Outline.{item_asking, item_of}
 use Rattle.mf_plan.specs.declared.state.State.{State}
 use Rattle.mf_objects.specs.Live.{Entities}
+use Rattle.mf_plan.specs.OutlineOf.{IsOutlineOf}
 use Rattle.mf_plan.specs.Plan.{call_row, plan_in, plan_of}
 use Rattle.mf_plan.specs.Views.{process_named}
 use Rattle.mf_core.specs.LegalHistory.{run_after}
-use Rattle.mf_core.specs.NextFound.{IsNextFound}
+use Rattle.mf_core.specs.NextFound.{IsNextOutline}
 use Rattle.mf_core.specs.RunView.{RunView}
 use Rattle.mf_perform.specs.Passed.{passed}
 use Rattle.mf_flow.specs.declared.following.Flow.{Flow}
@@ -20,7 +21,7 @@ use Rattle.mf_flow.specs.Rows.{HasLabelSlot, IsKept, where_done, flow_after_even
 use Rattle.mf_flow.specs.Transfers.{descriptor_of}
 use Rattle.mf_flow.proofs.Becoming.{all_becoming, becomes_along}
 use Rattle.mf_core.specs.declared.history.Event.TheVariants as event
-use Rattle.mf_flow.proofs.DoneCalls.{done_asked, done_flow, done_found, done_line, passed_map}
+use Rattle.mf_flow.proofs.DoneCalls.{done_asked, done_flow, done_line, done_outline, passed_map}
 use Rattle.mf_flow.proofs.following.follow_call.Goals as goal
 
 pub returns-clause-flows : goal.returns-clause-flows
@@ -75,20 +76,18 @@ settle_each-requires c =
     all_becoming (λ (f new : Flow). new ≡ flow_moved s fd (map (item_of s.objects) checks) f) HasLabelSlot HasLabelSlot c.args.flows.now.items c.move_passed.new.flows.items
     (λ f new is slot. subst HasLabelSlot (sym is) slot) c.in_ok-move_passed.ensures c.requires.slots
 
--- what the outline found is what the call is about, where it is done
-pub commit-requires-clause-found : goal.commit-requires-clause-found
-commit-requires-clause-found c =
+-- the outline is that of the call
+pub commit-requires-clause-outline : goal.commit-requires-clause-outline
+commit-requires-clause-outline c =
     let s = c.args.script.now in
     let run = c.args.run.now.run in
     let e = event.Done c.args.task c.args.number c.args.reply.now in
     let state = c.state-state.result.now in
     let task = c.name_of-name.result.now in
     let line = c.line_at-line.result.now in
-    λ done. subst (λ (x : Script). IsNextFound x run c.args.task c.make.new.self.found) (sym c.requires.script)
-    (done_found s run e c.args.task c.args.number c.args.reply.now state task line c.make.new.self.found refl c.requires.may
-    c.state-state.ensures c.name_of-name.ensures
+    let made = c.make.ensures in
+    subst (λ (x : Script). IsNextOutline x run c.args.task c.make.new.self) (sym c.requires.script)
+    (done_outline s run c.args.task state task line c.make.new.self c.state-state.ensures c.name_of-name.ensures
     (done_line s run e c.args.task c.args.number c.args.reply.now line refl c.requires.may c.line_at-line.ensures)
-    (λ tail. subst (λ (child : Option (List ℕ)). AreFound state task child line.call c.make.new.self.found) c.child_name-child.ensures
-    (c.make.ensures.found
-    (ap (λ (p : Plan). p.tail) c.make.ensures.plan ∙ ap (λ (child : Option (List ℕ)). (plan_of state task child line.call).tail) c.child_name-child.ensures ∙ tail)
-    )) done)
+    (subst (λ (child : Option (List ℕ)). IsOutlineOf state task child line.call c.make.new.self) c.child_name-child.ensures
+    (record { plan = made.plan; live = made.live; caller = made.caller; lives = made.lives; found = made.found })))
