@@ -11,3 +11,4 @@ mod Sourcing
 mod Telling
 mod Told
 mod Traced
+mod Walking

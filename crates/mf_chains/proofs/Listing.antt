@@ -1,5 +1,5 @@
 -- The rows of the table of chains.
-use Rattle.std.proofs.Common.{◌≡◌, ℕ, ◌<◌, ◌≤◌, ◌+◌, zero, suc, Bool, true, false, cond, List, [], ◌∷◌, ◌++◌, length, take, drop, get_or, map, Option, Some, Result, Ok, Err, inl, inr, refl, ap, sym, ◌∙◌, subst, arith, append-nil}
+use Rattle.std.proofs.Common.{◌≡◌, ℕ, ◌<◌, ◌≤◌, ◌+◌, zero, suc, Bool, true, false, cond, List, [], ◌∷◌, ◌++◌, ◌-◌, length, take, drop, get_or, map, reverse, Option, Some, Result, Ok, Err, inl, inr, refl, ap, sym, ◌∙◌, subst, arith, append-nil}
 use Rattle.std.specs.Prelude.{find, IfErr}
 use Rattle.std.specs.Result.{IsErrAnd}
 use Rattle.std.specs.List.{AllByRecursion, flat_map, sum_by}
@@ -14,9 +14,12 @@ use Rattle.mf_core.specs.declared.history.History.{History}
 use Rattle.mf_flow.specs.declared.table.Row.{Row}
 use Rattle.mf_flow.specs.Table.{sourced, table_of}
 use Rattle.mf_chains.specs.declared.chain.ChainRow.{ChainRow}
+use Rattle.mf_chains.specs.declared.happening.Occurrence.{Occurrence}
+use Rattle.mf_chains.specs.declared.pasts.Past.{Past}
+use Rattle.mf_chains.specs.Happenings.{happenings_of}
 use Rattle.mf_chains.specs.declared.table.Keeper.{Keeper}
 use Rattle.mf_chains.specs.Histories.{past_of}
-use Rattle.mf_chains.specs.Keepers.{HasLinks, IsKeeper, rows_by, rows_of}
+use Rattle.mf_chains.specs.Keepers.{HasLinks, IsKeeper, KeepsAll, rows_by, rows_of}
 use Rattle.mf_chains.specs.Kept.{additions, kept}
 use Rattle.mf_chains.specs.Table.{AreTooMany, all_additions, chain_row, chain_rows, chain_table, steps_in}
 use Rattle.mf_chains.specs.declared.chain.Chain.{Chain}
@@ -162,3 +165,48 @@ many_additions s h booted are over = inl (subst (λ (rs : List Registration). CH
 pub err_and_also : {X Y : Type 0} (r : Result X Y) (P Q : Y → Type 0) → ((y : Y) → P y → Q y) → IsErrAnd r P → IfErr r Q
 err_and_also (Ok x) P Q gives one = tt
 err_and_also (Err y) P Q gives one = gives y one
+
+-- the keepers of some policies, and of one more
+
+all_append : {A : Type 0} (P : A → Type 0) (xs : List A) (x : A) → AllByRecursion P xs → P x → AllByRecursion P (xs ++ x ∷ [])
+all_append P [] x all one = (one, tt)
+all_append P (y ∷ xs) x all one = (all.0, all_append P xs x all.1 one)
+
+module _ (s : Script) (h : History) where
+  abbrev pub added : Registration → ℕ
+  added r = additions (past_of s h r)
+
+  -- so many have their keepers, and so many elements may still come into sets
+  pub record HasKeepers (booted : List Registration) (n most : ℕ) (ks : List Keeper) : Type 0 where
+    pub registrations : map (λ (k : Keeper). k.registration) ks ≡ take n booted
+    pub keepers : AllByRecursion (IsKeeper s h) ks
+    pub left : most + sum_by added (take n booted) ≡ CHAIN_LIMIT
+
+  pub keepers_more : (booted : List Registration) (n most count : ℕ) (p : Past) (k : Keeper) (ks more : List Keeper) → n < length booted → p.registration ≡ get_or booted n p.registration
+      → p.occurrences ≡ happenings_of s p.registration h.events.list → k.registration ≡ p.registration → KeepsAll (reverse p.occurrences) k
+      → length k.links ≡ additions (reverse p.occurrences) → length k.links ≤ most → count ≡ length k.links → more ≡ ks ++ k ∷ [] → HasKeepers booted n most ks
+      → HasKeepers booted (n + 1) (most - count) more
+  keepers_more booted n most count p k ks more within is past_is of keeps additions_are few count_is more_is so_far =
+      let here : p.occurrences ≡ happenings_of s k.registration h.events.list = past_is ∙ ap (λ (r : Registration). happenings_of s r h.events.list) (sym of) in
+      record {
+        registrations = ap (map (λ (k : Keeper). k.registration)) more_is ∙ map-append (λ (k : Keeper). k.registration) ks (k ∷ [])
+            ∙ ap (λ (rs : List Registration). rs ++ k.registration ∷ []) so_far.registrations
+            ∙ ap (λ (r : Registration). take n booted ++ r ∷ []) of ∙ sym (taken_more booted n p.registration p.registration within is);
+        keepers = subst (AllByRecursion (IsKeeper s h)) (sym more_is) (all_append (IsKeeper s h) ks k so_far.keepers (subst (λ (xs : List Occurrence). KeepsAll (reverse xs) k) here keeps));
+        left = omega (
+          arith,
+          additions_are,
+          few,
+          count_is,
+          so_far.left,
+          ap (λ (xs : List Occurrence). additions (reverse xs)) past_is,
+          sum_more added booted n p.registration p.registration within is,
+        );
+      }
+
+  -- where the next has too many, all have
+  pub keepers_over : (booted : List Registration) (n most : ℕ) (p : Past) (ks : List Keeper) → n < length booted → p.registration ≡ get_or booted n p.registration
+      → p.occurrences ≡ happenings_of s p.registration h.events.list → HasKeepers booted n most ks → most < additions (reverse p.occurrences) → CHAIN_LIMIT < sum_by added booted
+  keepers_over booted n most p ks within is past_is so_far over =
+      let more : most < added p.registration = omega (arith, over, ap (λ (xs : List Occurrence). additions (reverse xs)) past_is) in
+      sum_over added booted n p.registration p.registration most CHAIN_LIMIT within is so_far.left more

@@ -43,7 +43,7 @@ use Rattle.mf_flow.specs.Rows.{where_done, relabel_asked, element_numbered, may_
 use Rattle.mf_list.specs.Asked.{slot_of}
 use Rattle.mf_flow.specs.Transfers.{caller_of, descriptor_of}
 use Rattle.mf_chains.specs.declared.happening.Occurrence.{Occurrence}
-use Rattle.mf_chains.specs.Happenings.{coming, element_at, coming_at, happened_at_line, happened_from, happened_in, moving_from, moving_of, relabelling}
+use Rattle.mf_chains.specs.Happenings.{coming, element_at, coming_at, happened_at_line, happened_in, moving_from, moving_of, relabelling}
 
 -- What a call with that reply asks, it asks where it is done.
 pub asked_after : (said : Reply) (asked : Option (Id × Request)) → after_reply said None asked ≡ where_done (is_ok said) asked
@@ -204,49 +204,19 @@ module _ (r : Registration) (event : ℕ) (said : Reply) (line : Line) where
       ++ (coming_at r o event (caller_of state task line) state.objects.next ++ relabelling r o event x)) asked_is
 
 pub done_happened : (s : Script) (r : Registration) (run : RunState) (e : Event) (t number event_number : ℕ) (said : Reply) (state state' : State) (task : List ℕ) (line : Line) (fd : Option Fd)
-    (request : Option Request) (checks : List Check) (next : ℕ) (caller : Option Id) (asked : Option (Id × Request)) (past moves comes all : List Occurrence) → e ≡ event.Done t number said
+    (request : Option Request) (checks : List Check) (next : ℕ) (caller : Option Id) (asked : Option (Id × Request)) → e ≡ event.Done t number said
     → state ≡ run.state → state' ≡ (run_after s run e).state → task ≡ name_of s t → next_line s run.progress t ≡ Some line
     → map (item_asking state.objects request) checks ≡ passed said (plan_in state (call_row state task line.child line.call)).items
     → fd ≡ descriptor_of state task line → next ≡ state.objects.next → caller ≡ caller_of state task line → asked ≡ relabel_asked state task line said
-    → moves ≡ past ++ moving_from r state fd event_number 1 (map (item_of state.objects) checks) → comes ≡ moves ++ coming_at r state'.objects event_number caller next
-    → all ≡ comes ++ relabelling r state'.objects event_number asked → all ≡ past ++ happened_in s r run event_number e
-done_happened s r run e t number event_number said state state' task line fd request checks next caller asked past moves comes all is here after_is task_is line_is items_are fd_is next_is
-    caller_is asked_is moves_are comes_are all_are =
-    let first : List Occurrence = moving_from r state fd event_number 1 (map (item_of state.objects) checks) in
-    let second : List Occurrence = coming_at r state'.objects event_number caller next in
-    let third : List Occurrence = relabelling r state'.objects event_number asked in
-    all_are ∙ ap (λ (xs : List Occurrence). xs ++ third) (comes_are ∙ ap (λ (xs : List Occurrence). xs ++ second) moves_are)
-    ∙ append_assoc (past ++ first) second third ∙ append_assoc past first (second ++ third)
-    ∙ ap (λ (xs : List Occurrence). past ++ xs)
-    (told_line r event_number said line state state' task fd request checks caller next asked items_are fd_is next_is caller_is asked_is
+    → moving_from r state fd event_number 1 (map (item_of state.objects) checks) ++ (coming_at r state'.objects event_number caller next ++ relabelling r state'.objects event_number asked)
+    ≡ happened_in s r run event_number e
+done_happened s r run e t number event_number said state state' task line fd request checks next caller asked is here after_is task_is line_is items_are fd_is next_is caller_is asked_is =
+    told_line r event_number said line state state' task fd request checks caller next asked items_are fd_is next_is caller_is asked_is
     ∙ ap (λ (x : State). happened_at_line r x state' event_number task (Some line) said) here
     ∙ ap (λ (x : State). happened_at_line r run.state x event_number task (Some line) said) (after_is ∙ ap (λ (x : Event). (run_after s run x).state) is)
     ∙ ap (λ (x : List ℕ). happened_at_line r run.state (run_after s run (event.Done t number said)).state event_number x (Some line) said) task_is
     ∙ ap (λ (x : Option Line). happened_at_line r run.state (run_after s run (event.Done t number said)).state event_number (name_of s t) x said) (sym line_is)
-    ∙ ap (happened_in s r run event_number) (sym is))
-
-pub nothing_happened : (s : Script) (r : Registration) (run : RunState) (e e' : Event) (n : ℕ) (past : List Occurrence) → e ≡ e' → happened_in s r run n e' ≡ [] → past ≡ past ++ happened_in s r run n e
-nothing_happened s r run e e' n past is none = sym (ap (λ (x : Event). past ++ happened_in s r run n x) is ∙ ap (λ (xs : List Occurrence). past ++ xs) none ∙ append-nil past)
-
--- Histories
-
--- one event more
-pub happened_more : (s : Script) (r : Registration) (es : List Event) (n : ℕ) (run : RunState) (past past' all : List Occurrence) (e d : Event) → n < length es → e ≡ get_or es n d
-    → past ++ happened_from s r run (n + 1) (drop n es) ≡ all → past' ≡ past ++ happened_in s r run (n + 1) e
-    → past' ++ happened_from s r (run_after s run e) ((n + 1) + 1) (drop (n + 1) es) ≡ all
-happened_more s r es n run past past' all e d within is so_far more =
-    let next : suc n ≡ n + 1 = omega arith in
-    let rest : drop n es ≡ e ∷ drop (n + 1) es =
-    drop-cons es n d within ∙ ap (λ (x : Event). x ∷ drop (suc n) es) (sym is) ∙ ap (λ (k : ℕ). e ∷ drop k es) next in
-    ap (λ (xs : List Occurrence). xs ++ happened_from s r (run_after s run e) ((n + 1) + 1) (drop (n + 1) es)) more
-    ∙ append_assoc past (happened_in s r run (n + 1) e) (happened_from s r (run_after s run e) ((n + 1) + 1) (drop (n + 1) es))
-    ∙ sym (ap (λ (xs : List Event). past ++ happened_from s r run (n + 1) xs) rest)
-    ∙ so_far
-
-pub happened_all : (s : Script) (r : Registration) (es : List Event) (n : ℕ) (run : RunState) (past all : List Occurrence) → length es ≤ n
-    → past ++ happened_from s r run (n + 1) (drop n es) ≡ all → past ≡ all
-happened_all s r es n run past all over so_far =
-    sym (append-nil past) ∙ sym (ap (λ (xs : List Event). past ++ happened_from s r run (n + 1) xs) (drop_all n es over)) ∙ so_far
+    ∙ ap (happened_in s r run event_number) (sym is)
 
 -- the loop over checks
 pub moves_more : (r : Registration) (s : State) (fd : Option Fd) (event : ℕ) (old past past' : List Occurrence) (checks : List Check) (n : ℕ) (check d : Check) → n < length checks

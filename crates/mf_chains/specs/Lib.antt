@@ -7,5 +7,6 @@ pub mod Kept
 pub mod Laws
 pub mod Links
 pub mod Marks
+pub mod Pasts
 pub mod Table
 pub mod Tracing

@@ -8,7 +8,7 @@ ghost use Rattle.mf_core.specs.LegalHistory.{IsLegal};
 ghost use Rattle.mf_chains.specs.Histories.{IsChain};
 
 use crate::chain::Chain;
-use crate::happened::happenings;
+use crate::pasts::{happenings, no_pasts};
 use crate::tracing::leads;
 use mf_calls::Script;
 use mf_core::History;
@@ -39,12 +39,13 @@ pub fn accepts(
     match policy_of(&booted, module) {
         None => Ok(false),
         Some(registration) => {
-            let mut past = Vec::new(alloc);
-            let run = happenings(alloc, script, history, registration, &mut past)?;
+            let mut pasts = no_pasts(alloc, &[*registration])?;
+            let run = happenings(alloc, script, history, &mut pasts)?;
             if !lives(&run.state().objects, party) {
                 return Ok(false);
             }
-            Ok(leads(&past, party, element, chain))
+            let past = pasts[0].occurrences.as_slice();
+            Ok(leads(past, party, element, chain))
         }
     }
 }

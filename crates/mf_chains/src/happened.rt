@@ -1,72 +1,33 @@
-//! What happens to the parties of a policy over a history.
-ghost use Rattle.std.specs.Prelude.{◌≡◌, ◌<◌, ◌≤◌, ◌+◌, [], ◌++◌, ◌&&◌, length, map, IfOk, OnOk};
+//! What happens to the parties of a policy at the opening, by checks, and as entities come or are relabelled.
+ghost use Rattle.std.specs.Prelude.{◌≡◌, ◌<◌, ◌≤◌, ◌++◌, ◌&&◌, length, map, OnOk};
 ghost use Rattle.std.specs.Option.{option_copied};
 ghost use Rattle.mf_flow.specs.Rows.{may_come as spec_may_come};
 ghost use Rattle.mf_policy.specs.Operations.{row_of as row_of_op};
 ghost use Rattle.mf_elem.specs.declared.label.TheConstants.{SLOTS};
 ghost use Rattle.mf_list.specs.Asked.{slot_of};
-ghost use Rattle.mf_calls.specs.WellFormed.{IsWellFormed};
 ghost use Rattle.mf_plan.specs.Outline.{item_of};
 ghost use Rattle.mf_plan.specs.declared.plan.TheConstants.{MOST_CHECKS};
-ghost use Rattle.mf_core.specs.LegalHistory.{run_after, run_state_of, IsLegal, MayCome};
 ghost use Rattle.mf_chains.specs.Happenings as spec;
 
 use crate::happening::{Happening, Occurrence};
-use mf_calls::Script;
-use mf_core::{Event, History, Run};
 use mf_elem::{Elem, Request};
-use mf_flow::{asked_of, counts, element_at, has_element, may_come};
+use mf_flow::{counts, element_at, has_element, may_come};
 use mf_item::CheckOp;
+use mf_names::Listing;
 use mf_objects::{Fd, Id, Objects};
-use mf_perform::passed;
-use mf_plan::{Check, LastLabel, State, descriptor_of_call, outline_of};
+use mf_plan::{Check, State};
 use mf_policy::{Movement, Registration, row_of};
-use std::alloc::{AllocError, Global};
-
-/// Appends what happens to the parties of the policy over a legal history, the oldest first, and returns the run at its end.
-pub fn happenings<'s>(
-    alloc: Global,
-    script: &'s Script,
-    history: &History,
-    registration: &Registration,
-    past: &mut Vec<Occurrence>,
-) -> Result<Run<'s>, AllocError>
-    requires formed { IsWellFormed script.now }
-    requires legal { IsLegal script.now history.now }
-    requires slot { slot_of registration.now < SLOTS }
-    requires empty { past.old.items ≡ [] }
-    ensures run { IfOk result (λ r. r.run ≡ run_state_of script.now history.now.events.list) }
-    ensures past { OnOk result (past.new.items
-        ≡ spec.happenings_of script.now registration.now history.now.events.list) }
-{
-    let mut run = Run::new(alloc, script)?;
-    push_opening(registration, &run.state().objects, past)?;
-    let mut last = LastLabel::new();
-    for (place, event) in history.events.as_slice().iter().enumerate() {
-        let number = place as u32 + 1;
-        follow(
-            alloc,
-            script,
-            registration,
-            &mut run,
-            &mut last,
-            number,
-            event,
-            past,
-        )?;
-    }
-    Ok(run)
-}
+use std::alloc::AllocError;
 
 /// The entities of the opening state come, by rising id.
-fn push_opening(
+pub fn push_opening(
     registration: &Registration,
     objects: &Objects,
-    past: &mut Vec<Occurrence>,
+    past: &mut Listing<Occurrence>,
 ) -> Result<(), AllocError>
     requires { slot_of registration.now < SLOTS }
-    ensures { OnOk result (past.new.items
-        ≡ past.old.items ++ spec.opening_happenings registration.now objects.now) }
+    ensures { OnOk result (past.new
+        ≡ past.old ++ spec.opening_happenings registration.now objects.now) }
 {
     for number in 0..objects.next_id() {
         push_coming(registration, objects, 0, None, number, past)?;
@@ -74,77 +35,18 @@ fn push_opening(
     Ok(())
 }
 
-/// The state after an event that may come, and what happens in it.
-fn follow(
-    alloc: Global,
-    script: &Script,
-    registration: &Registration,
-    run: &mut Run,
-    last: &mut LastLabel,
-    number: u32,
-    event: &Event,
-    past: &mut Vec<Occurrence>,
-) -> Result<(), AllocError>
-    requires slot { slot_of registration.now < SLOTS }
-    requires script { run.old.script ≡ script.now }
-    requires formed { IsWellFormed script.now }
-    requires may { MayCome script.now run.old.run event.now }
-    ensures run { OnOk result (run.new
-        ≡ record { script = script.now; run = run_after script.now run.old.run event.now }) }
-    ensures past { OnOk result (past.new.items ≡ past.old.items
-        ++ spec.happened_in script.now registration.now run.old.run number event.now) }
-{
-    match event {
-        Event::Done(task, line_number, reply) => {
-            let line = script.line_at(*task, *line_number - 1);
-            let name = script.name_of(*task);
-            let state = run.state();
-            let next = state.objects.next_id();
-            last.keep(&line.call);
-            let child = line.child_name();
-            let outline = outline_of(state, name, child, &line.call, last);
-            let lent = reply.lend();
-            let said = lent.get();
-            let checks = passed(said, outline.checks.as_slice());
-            let fd = descriptor_of_call(state, name, child, &line.call);
-            push_moves(registration, state, fd, number, checks, past)?;
-            let asked = asked_of(said, &outline);
-            run.commit(alloc, *task, *line_number, &outline.found, reply)?;
-            let objects = &run.state().objects;
-            push_coming(
-                registration,
-                objects,
-                number,
-                outline.found.caller,
-                next,
-                past,
-            )?;
-            push_relabelling(registration, objects, number, &asked, past)
-        }
-        Event::Enter(task) => {
-            run.enter(*task);
-            Ok(())
-        }
-        Event::Leave(task) => {
-            run.leave(*task);
-            Ok(())
-        }
-        Event::Changed(task, line_number, reply) => run.change(alloc, *task, *line_number, reply),
-    }
-}
-
 /// What checks that passed move.
-fn push_moves(
+pub fn push_moves(
     registration: &Registration,
     state: &State,
     fd: Option<&Fd>,
     event: u32,
     checks: &[Check],
-    past: &mut Vec<Occurrence>,
+    past: &mut Listing<Occurrence>,
 ) -> Result<(), AllocError>
     requires slot { slot_of registration.now < SLOTS }
     requires few { length checks.now ≤ MOST_CHECKS }
-    ensures { OnOk result (past.new.items ≡ past.old.items
+    ensures { OnOk result (past.new ≡ past.old
         ++ spec.moving_from registration.now state.now (option_copied fd.entry) event 1
         (map (item_of state.now.objects) checks.now)) }
 {
@@ -162,10 +64,10 @@ fn push_counted(
     event: u32,
     number: u8,
     check: &Check,
-    past: &mut Vec<Occurrence>,
+    past: &mut Listing<Occurrence>,
 ) -> Result<(), AllocError>
     requires { slot_of registration.now < SLOTS }
-    ensures { OnOk result (past.new.items ≡ past.old.items
+    ensures { OnOk result (past.new ≡ past.old
         ++ spec.moving_of registration.now state.now (option_copied fd.entry) event number
         (item_of state.now.objects check.now)) }
 {
@@ -183,10 +85,10 @@ fn push_moving(
     event: u32,
     number: u8,
     check: &Check,
-    past: &mut Vec<Occurrence>,
+    past: &mut Listing<Occurrence>,
 ) -> Result<(), AllocError>
     requires { slot_of registration.now < SLOTS }
-    ensures { OnOk result (past.new.items ≡ past.old.items
+    ensures { OnOk result (past.new ≡ past.old
         ++ spec.moving_with registration.now objects.now event number
         (item_of objects.now check.now) (item_of objects.now check.now).object) }
 {
@@ -266,16 +168,16 @@ fn is_to_object(movement: Movement) -> bool
 }
 
 /// The entity of a number comes, made by that process, or at the opening, where there is one.
-fn push_coming(
+pub fn push_coming(
     registration: &Registration,
     objects: &Objects,
     event: u32,
     maker: Option<Id>,
     number: u32,
-    past: &mut Vec<Occurrence>,
+    past: &mut Listing<Occurrence>,
 ) -> Result<(), AllocError>
     requires { slot_of registration.now < SLOTS }
-    ensures { OnOk result (past.new.items ≡ past.old.items
+    ensures { OnOk result (past.new ≡ past.old
         ++ spec.coming_at registration.now objects.now event maker number) }
 {
     let _live = objects.live();
@@ -289,15 +191,15 @@ fn push_coming(
 }
 
 /// The entity is relabelled, where the call is done and asks for an element by the policy.
-fn push_relabelling(
+pub fn push_relabelling(
     registration: &Registration,
     objects: &Objects,
     event: u32,
     asked: &Option<(Id, Request)>,
-    past: &mut Vec<Occurrence>,
+    past: &mut Listing<Occurrence>,
 ) -> Result<(), AllocError>
     requires { slot_of registration.now < SLOTS }
-    ensures { OnOk result (past.new.items ≡ past.old.items
+    ensures { OnOk result (past.new ≡ past.old
         ++ spec.relabelling registration.now objects.now event asked.now) }
 {
     match asked {

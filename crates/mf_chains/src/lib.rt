@@ -10,6 +10,7 @@ mod laws;
 mod limits;
 mod links;
 mod marks;
+mod pasts;
 mod printing;
 mod table;
 mod tracing;

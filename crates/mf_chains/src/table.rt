@@ -1,5 +1,5 @@
 //! The table of the chains of a history.
-ghost use Rattle.std.specs.Prelude.{◌≡◌, ◌<◌, ◌≤◌, ◌+◌, [], ◌∷◌, ◌++◌, find, length, map, IfErr, IfOk, OnOk};
+ghost use Rattle.std.specs.Prelude.{◌≡◌, ◌<◌, ◌≤◌, ◌+◌, [], ◌∷◌, ◌++◌, find, length, map, reverse, IfErr, IfOk, OnOk};
 ghost use Rattle.std.specs.List.{AllByRecursion, flat_map, sum_by};
 ghost use Rattle.std.specs.Option.{option_copied};
 ghost use Rattle.mf_errno.specs.Same.{same_module};
@@ -7,23 +7,24 @@ ghost use Rattle.mf_elem.specs.declared.label.TheConstants.{SLOTS};
 ghost use Rattle.mf_list.specs.Asked.{slot_of};
 ghost use Rattle.mf_calls.specs.WellFormed.{IsWellFormed};
 ghost use Rattle.mf_core.specs.LegalHistory.{IsLegal};
+ghost use Rattle.mf_flow.specs.Table.{table_of};
 ghost use Rattle.mf_chains.specs.declared.chain.ChainFault.TheVariants as fault;
 ghost use Rattle.mf_chains.specs.Histories.{past_of};
-ghost use Rattle.mf_chains.specs.Keepers.{HasLinks, IsKeeper, rows_by, rows_of};
+ghost use Rattle.mf_chains.specs.Keepers.{HasLinks, IsKeeper, KeepsAll, rows_by, rows_of};
 ghost use Rattle.mf_chains.specs.Kept.{additions};
 ghost use Rattle.mf_chains.specs.Marks.{kept_of};
 ghost use Rattle.mf_chains.specs.Table as spec;
 
 use crate::chain::{ChainFault, ChainRow, ChainTable};
-use crate::happened::happenings;
 use crate::keeping::keep_all;
 use crate::limits::CHAIN_LIMIT;
 use crate::links::Links;
 use crate::marks::{Mark, MarkSets};
+use crate::pasts::{Past, happenings, no_pasts};
 use mf_calls::Script;
 use mf_core::History;
 use mf_errno::Module;
-use mf_flow::{Row, Table, sourced, sources};
+use mf_flow::{Row, Table, sourced};
 use mf_names::{Listing, Name};
 use mf_policy::Registration;
 use std::alloc::Global;
@@ -36,10 +37,16 @@ pub struct Keeper {
     pub sets: MarkSets,
 }
 
-/// The chain by which each element of the sources of each live entity came there first.
-pub fn chains(alloc: Global, script: &Script, history: &History) -> Result<ChainTable, ChainFault>
+/// The chain by which each element of the sources of each live entity came there first. The table is that of the sources.
+pub fn chains(
+    alloc: Global,
+    script: &Script,
+    history: &History,
+    table: &Table,
+) -> Result<ChainTable, ChainFault>
     requires formed { IsWellFormed script.now }
     requires legal { IsLegal script.now history.now }
+    requires table { table.now ≡ table_of script.now history.now }
     ensures table { IfOk result (λ table. table ≡ spec.chain_table script.now history.now) }
     ensures few { OnOk result (¬ spec.AreTooMany script.now history.now) }
     ensures fault { IfErr result (λ f. f ≡ fault.TooMany
@@ -47,8 +54,7 @@ pub fn chains(alloc: Global, script: &Script, history: &History) -> Result<Chain
 {
     let booted = sourced(alloc, &history.boots)?;
     let keepers = keepers_for(alloc, script, history, &booted)?;
-    let table = sources(alloc, script, history)?;
-    list_chains(alloc, keepers.as_slice(), &table)
+    list_chains(alloc, keepers.as_slice(), table)
 }
 
 /// What the parties of each of these policies hold at the end of the history.
@@ -70,10 +76,12 @@ fn keepers_for(
     ensures fault { IfErr result (λ f. f ≡ fault.TooMany
         → CHAIN_LIMIT < sum_by (λ r. additions (past_of script.now history.now r)) booted.now) }
 {
+    let mut pasts = no_pasts(alloc, booted)?;
+    let _run = happenings(alloc, script, history, &mut pasts)?;
     let mut keepers = Listing::new(alloc);
     let mut most = CHAIN_LIMIT as usize;
-    for registration in booted {
-        let keeper = keeper_for(alloc, script, history, registration, most)?;
+    for past in &pasts {
+        let keeper = keeper_for(alloc, past, most)?;
         most -= keeper.links.len();
         keepers.push(keeper)?;
     }
@@ -81,31 +89,26 @@ fn keepers_for(
 }
 
 /// What the parties of a policy hold at the end of the history. Fails where more than `most` elements come into sets.
-fn keeper_for(
-    alloc: Global,
-    script: &Script,
-    history: &History,
-    registration: &Registration,
-    most: usize,
-) -> Result<Keeper, ChainFault>
-    requires formed { IsWellFormed script.now }
-    requires legal { IsLegal script.now history.now }
-    requires slot { slot_of registration.now < SLOTS }
-    ensures registration { IfOk result (λ k. k.registration ≡ registration.now) }
-    ensures keeper { IfOk result (IsKeeper script.now history.now) }
+fn keeper_for(alloc: Global, past: &Past, most: usize) -> Result<Keeper, ChainFault>
+    ensures registration { IfOk result (λ k. k.registration ≡ past.now.registration) }
+    ensures keeper { IfOk result (KeepsAll (reverse past.now.occurrences)) }
     ensures count { IfOk result (λ k. length k.links
-        ≡ additions (past_of script.now history.now registration.now)) }
+        ≡ additions (reverse past.now.occurrences)) }
     ensures few { IfOk result (λ k. length k.links ≤ most) }
     ensures fault { IfErr result (λ f. f ≡ fault.TooMany
-        → most < additions (past_of script.now history.now registration.now)) }
+        → most < additions (reverse past.now.occurrences)) }
 {
-    let mut past = Vec::new(alloc);
-    let _run = happenings(alloc, script, history, registration, &mut past)?;
     let mut links = Links::new(alloc);
     let mut sets = MarkSets::new(alloc);
-    keep_all(alloc, &past, most, &mut links, &mut sets)?;
+    keep_all(
+        alloc,
+        past.occurrences.as_slice(),
+        most,
+        &mut links,
+        &mut sets,
+    )?;
     Ok(Keeper {
-        registration: *registration,
+        registration: past.registration,
         links,
         sets,
     })

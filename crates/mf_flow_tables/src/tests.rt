@@ -5,8 +5,9 @@ ghost use Rattle.mf_core.specs.LegalHistory.{IsLegal};
 
 use mf_audit::{Audit, audit_history};
 use mf_calls::Script;
-use mf_chains::{Chain, ChainFault, ChainRow, Step, accepts, chains, print_chains};
+use mf_chains::{Chain, ChainFault, ChainRow, ChainTable, Step, accepts, chains, print_chains};
 use mf_core::{History, Run};
+use mf_flow::sources;
 use mf_hist::read_history;
 use mf_matrix::{Matrix, Row, matrix_of};
 use mf_names::{Listing, SCRIPT_LIMIT};
@@ -61,12 +62,21 @@ fn audited(alloc: Global, script: &Script, history: History) -> Result<History, 
     }
 }
 
+/// The chains, over the sources.
+fn chains_of(alloc: Global, script: &Script, history: &History) -> Result<ChainTable, ChainFault>
+    requires formed { IsWellFormed script.now }
+    requires legal { IsLegal script.now history.now }
+{
+    let table = sources(alloc, script, history)?;
+    chains(alloc, script, history, &table)
+}
+
 /// The lines of the chains.
 fn lines_of(alloc: Global, script: &Script, history: &History) -> Result<String, ChainFault>
     requires formed { IsWellFormed script.now }
     requires legal { IsLegal script.now history.now }
 {
-    let table = chains(alloc, script, history)?;
+    let table = chains_of(alloc, script, history)?;
     let mut text = String::new(alloc);
     print_chains(&table, &mut text)?;
     Ok(text)
@@ -118,7 +128,7 @@ fn is_told_apart(
     requires formed { IsWellFormed script.now }
     requires legal { IsLegal script.now history.now }
 {
-    let table = chains(alloc, script, history)?;
+    let table = chains_of(alloc, script, history)?;
     let Some(row) = table.as_slice().get(3) else {
         return Err(ChainFault::Memory);
     };

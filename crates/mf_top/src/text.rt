@@ -5,6 +5,7 @@ ghost use Rattle.mf_core.specs.CoreView.{all_lines, done_of, open_of};
 ghost use Rattle.mf_core.specs.LegalHistory.{IsLegal};
 ghost use Rattle.mf_flow.specs.Laws.{AreInOrder};
 ghost use Rattle.mf_flow.specs.SourcesText.{sources_text};
+ghost use Rattle.mf_flow.specs.Table.{table_of};
 ghost use Rattle.mf_load.specs.Summary.{load_summary};
 ghost use Rattle.mf_steps.specs.StepText.{IsStepRun};
 ghost use Rattle.mf_top.specs.declared.text.Telling.TheVariants as telling;
@@ -16,7 +17,7 @@ use crate::refusal::Refusal;
 use mf_calls::Script;
 use mf_chains::{ChainFault, chains, print_chains};
 use mf_core::{Core, History};
-use mf_flow::{TrackedCore, print_sources, sources};
+use mf_flow::{Table, TrackedCore, print_sources, sources};
 use mf_hist::print_history;
 use mf_load::{summary_is_settled, summary_text};
 use mf_matrix::print_matrix;
@@ -106,21 +107,24 @@ fn with_chains(alloc: Global, script: &Script, tracked: &TrackedCore) -> Result<
     ensures { IsToldOf telling.Chains script.now (bytes_of_outcome result) }
 {
     let text = whole_text(alloc, script, tracked)?;
-    add_chains(alloc, script, tracked.core().history(), text)
+    let table = tracked.sources(alloc)?;
+    add_chains(alloc, script, tracked.core().history(), &table, text)
 }
 
-/// The text with that of the chains at the end of the history behind it, unless there are too many.
+/// The text with that of the chains at the end of the history behind it, unless there are too many. The table is that of the sources.
 fn add_chains(
     alloc: Global,
     script: &Script,
     history: &History,
+    sources: &Table,
     mut text: String,
 ) -> Result<String, Refusal>
     requires formed { IsWellFormed script.now }
     requires legal { IsLegal script.now history.now }
+    requires sources { sources.now ≡ table_of script.now history.now }
     ensures { AreChainsTold script.now history.now (string_bytes text) (bytes_of_outcome result) }
 {
-    match chains(alloc, script, history) {
+    match chains(alloc, script, history, sources) {
         Ok(table) => {
             print_chains(&table, &mut text)?;
             Ok(text)

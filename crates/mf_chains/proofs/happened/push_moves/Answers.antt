@@ -9,11 +9,11 @@ use Rattle.mf_chains.proofs.happened.push_moves.Goals as goal
 
 pub loop-place-preserved : goal.loop-place-preserved
 loop-place-preserved c =
-    moves_more c.args.registration.now c.args.state.now (option_copied {T = Fd} c.args.fd) c.args.event c.args.past.now.items c.loop-place.past.items c.push_counted.new.past.items c.args.checks.now
+    moves_more c.args.registration.now c.args.state.now (option_copied {T = Fd} c.args.fd) c.args.event c.args.past.now c.loop-place.past c.push_counted.new.past c.args.checks.now
     c.loop-place.place _ _ (omega arith) c.loop-place.invariant c.in_ok-push_counted.ensures refl
 
 pub returns : goal.returns
 returns c =
     c.loop-place.invariant
-    ∙ ap (λ (xs : List Check). c.args.past.now.items ++ moving_from c.args.registration.now c.args.state.now (option_copied {T = Fd} c.args.fd) c.args.event 1 (map (item_of c.args.state.now.objects) xs))
+    ∙ ap (λ (xs : List Check). c.args.past.now ++ moving_from c.args.registration.now c.args.state.now (option_copied {T = Fd} c.args.fd) c.args.event 1 (map (item_of c.args.state.now.objects) xs))
     (take_all c.loop-place.place c.args.checks.now (omega (arith, c.loop-place-test.false)))

@@ -7,4 +7,4 @@ use Rattle.mf_chains.proofs.happened.push_moves.Given as goal
 
 abbrev pub invariant-loop-place : goal.invariant-loop-place
 invariant-loop-place l =
-    l.past.items ≡ l.initial.past.items ++ moving_from l.registration l.state (option_copied {T = Fd} l.fd) l.event 1 (map (item_of l.state.objects) (take l.place l.checks))
+    l.past ≡ l.initial.past ++ moving_from l.registration l.state (option_copied {T = Fd} l.fd) l.event 1 (map (item_of l.state.objects) (take l.place l.checks))

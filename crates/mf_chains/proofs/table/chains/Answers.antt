@@ -19,9 +19,9 @@ list_chains-requires c =
 
 pub returns-clause-table : goal.returns-clause-table
 returns-clause-table c =
-    if_ok_also c.list_chains.result (λ (rows : List ChainRow). rows ≡ flat_map (rows_by c.as_slice.result.now) c.in_ok-table.table) (λ rows. rows ≡ chain_table c.args.script.now c.args.history.now)
-    (λ rows is. is ∙ whole_rows c.args.script.now c.args.history.now c.deref.result.now c.in_ok-keepers.keepers c.as_slice.result.now c.in_ok-table.table
-    (c.deref.ensures.value ∙ c.in_ok-booted.ensures) c.as_slice.ensures c.in_ok-keepers.ensures.registrations c.in_ok-keepers.ensures.keepers c.in_ok-table.ensures.table)
+    if_ok_also c.list_chains.result (λ (rows : List ChainRow). rows ≡ flat_map (rows_by c.as_slice.result.now) c.args.table.now) (λ rows. rows ≡ chain_table c.args.script.now c.args.history.now)
+    (λ rows is. is ∙ whole_rows c.args.script.now c.args.history.now c.deref.result.now c.in_ok-keepers.keepers c.as_slice.result.now c.args.table.now
+    (c.deref.ensures.value ∙ c.in_ok-booted.ensures) c.as_slice.ensures c.in_ok-keepers.ensures.registrations c.in_ok-keepers.ensures.keepers c.requires.table)
     c.list_chains.ensures.rows
 
 pub returns-clause-few : goal.returns-clause-few
@@ -29,14 +29,14 @@ returns-clause-few c =
     let booted = c.deref.ensures.value ∙ c.in_ok-booted.ensures in
     on_ok_weaker c.list_chains.result (λ few.
     few_all c.args.script.now c.args.history.now c.deref.result.now _ booted c.in_ok-keepers.ensures.few
-    (whole_rows c.args.script.now c.args.history.now c.deref.result.now c.in_ok-keepers.keepers c.as_slice.result.now c.in_ok-table.table
-    booted c.as_slice.ensures c.in_ok-keepers.ensures.registrations c.in_ok-keepers.ensures.keepers c.in_ok-table.ensures.table) few)
+    (whole_rows c.args.script.now c.args.history.now c.deref.result.now c.in_ok-keepers.keepers c.as_slice.result.now c.args.table.now
+    booted c.as_slice.ensures c.in_ok-keepers.ensures.registrations c.in_ok-keepers.ensures.keepers c.requires.table) few)
     c.list_chains.ensures.few
 
 pub returns-clause-fault : goal.returns-clause-fault
 returns-clause-fault c =
     fault_also c.list_chains.result _ _ (λ f over is.
     many_steps c.args.script.now c.args.history.now _
-    (whole_rows c.args.script.now c.args.history.now c.deref.result.now c.in_ok-keepers.keepers c.as_slice.result.now c.in_ok-table.table
-    (c.deref.ensures.value ∙ c.in_ok-booted.ensures) c.as_slice.ensures c.in_ok-keepers.ensures.registrations c.in_ok-keepers.ensures.keepers c.in_ok-table.ensures.table)
+    (whole_rows c.args.script.now c.args.history.now c.deref.result.now c.in_ok-keepers.keepers c.as_slice.result.now c.args.table.now
+    (c.deref.ensures.value ∙ c.in_ok-booted.ensures) c.as_slice.ensures c.in_ok-keepers.ensures.registrations c.in_ok-keepers.ensures.keepers c.requires.table)
     (over is)) c.list_chains.ensures.fault
