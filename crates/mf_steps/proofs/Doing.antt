@@ -12,8 +12,7 @@ use Rattle.mf_core.specs.declared.progress.Commit.TheVariants as commit
 use Rattle.mf_core.specs.LegalHistory.{next_number}
 use Rattle.mf_core.specs.CoreView.{CoreView, run_state, specs_of, with_next, Changes, Commits}
 use Rattle.mf_hist.specs.HistoryText.{event_text}
-use Rattle.mf_steps.specs.declared.kept.KeptPlan.{KeptPlan}
-use Rattle.mf_steps.specs.StepRun.{StepRun, kept_at}
+use Rattle.mf_steps.specs.StepRun.{StepRun, kept_at, KeptPlan}
 use Rattle.mf_steps.specs.Stepper.{StepperView, step_run}
 use Rattle.mf_steps.specs.Steps.{stale_text, waits_text}
 use Rattle.mf_steps.specs.Answers.{DoesStep, PrintsLast}

@@ -13,8 +13,7 @@ use Rattle.mf_core.specs.declared.history.Event.{Event}
 use Rattle.mf_core.specs.declared.history.Event.TheVariants as event
 use Rattle.mf_core.specs.LegalHistory.{next_number}
 use Rattle.mf_hist.specs.HistoryText.{boot_text}
-use Rattle.mf_steps.specs.declared.kept.KeptPlan.{KeptPlan}
-use Rattle.mf_steps.specs.StepRun.{StepRun, state_in, step_opening, with_plan, without_plan}
+use Rattle.mf_steps.specs.StepRun.{StepRun, state_in, step_opening, with_plan, without_plan, KeptPlan}
 use Rattle.mf_steps.specs.Steps.{Appends, DoesCall, MakesChange, KeepsPlan, CommitsOrStale, ChangesOrWaits, Does, IsTaken, AreTaken, IsRefused}
 use Rattle.mf_steps.specs.Laws.{StepRunsEndOneWay}
 

@@ -6,7 +6,7 @@ use Rattle.mf_perform.specs.declared.verdict.Verdict.{Verdict}
 use Rattle.mf_perform.specs.Verdict.{verdict_of}
 use Rattle.mf_core.specs.CoreView.{run_state, specs_of}
 use Rattle.mf_core.specs.Next.{next_plan}
-use Rattle.mf_steps.specs.declared.kept.KeptPlan.{KeptPlan}
+use Rattle.mf_steps.specs.StepRun.{KeptPlan}
 use Rattle.mf_steps.specs.Stepper.{StepperView, step_run}
 use Rattle.mf_steps.specs.Steps.{KeepsPlan}
 

@@ -24,9 +24,8 @@ use Rattle.mf_policy.specs.Registration.{Entry}
 use Rattle.mf_plan.specs.Planned.{Plan}
 use Rattle.mf_calls.specs.declared.script.Script.{Script}
 use Rattle.mf_calls.specs.declared.script.Task.{Task}
-use Rattle.mf_steps.specs.declared.kept.KeptPlan.{KeptPlan}
 use Rattle.mf_calls.specs.declared.limits.TheConstants.{TASK_LIMIT}
-use Rattle.mf_steps.specs.StepRun.{kept_at}
+use Rattle.mf_steps.specs.StepRun.{kept_at, KeptPlan}
 use Rattle.mf_steps.specs.Stepper.{IsGood, AreGood, IsSoundStepper}
 
 -- a task of another phase has no good plan

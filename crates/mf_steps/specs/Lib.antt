@@ -1,4 +1,5 @@
 pub mod StepRun
+pub mod PlanRoom
 pub mod Steps
 pub mod StepText
 pub mod Laws

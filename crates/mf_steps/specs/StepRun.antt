@@ -3,7 +3,13 @@ use Rattle.std.specs.Prelude.{ℕ, List, [], map, Option, Some, None, slice_inde
 use Rattle.mf_calls.specs.declared.script.Script.{Script}
 use Rattle.mf_core.specs.declared.history.Event.{Event}
 use Rattle.mf_core.specs.LegalHistory.{RunState, run_state_of}
-use Rattle.mf_steps.specs.declared.kept.KeptPlan.{KeptPlan}
+use Rattle.mf_perform.specs.declared.verdict.Verdict.{Verdict}
+use Rattle.mf_plan.specs.Planned.{Plan}
+
+-- a plan, with the policies' verdict on it
+pub record KeptPlan : Type 0 where
+  pub plan : Plan
+  pub verdict : Verdict
 
 -- the events so far, and the plan that is kept for each task, where there is one
 pub record StepRun : Type 0 where

@@ -9,8 +9,7 @@ use Rattle.mf_core.specs.declared.progress.Phase.TheVariants as phase
 use Rattle.mf_core.specs.CoreView.{CoreView, specs_of, progress_of}
 use Rattle.mf_core.specs.Policies.{AreOf}
 use Rattle.mf_core.specs.Progress.{progress_at}
-use Rattle.mf_steps.specs.declared.kept.KeptPlan.{KeptPlan}
-use Rattle.mf_steps.specs.StepRun.{StepRun, kept_at}
+use Rattle.mf_steps.specs.StepRun.{StepRun, kept_at, KeptPlan}
 
 -- a core, and the plan that is kept for each task
 pub record StepperView : Type 0 where

@@ -16,8 +16,7 @@ use Rattle.mf_core.specs.LegalHistory.{turn_of, next_reply, next_number}
 use Rattle.mf_core.specs.Next.{next_plan}
 use Rattle.mf_core.specs.Progress.{open_entries}
 use Rattle.mf_hist.specs.HistoryText.{event_text}
-use Rattle.mf_steps.specs.declared.kept.KeptPlan.{KeptPlan}
-use Rattle.mf_steps.specs.StepRun.{StepRun, state_in, kept_at, with_plan, without_plan}
+use Rattle.mf_steps.specs.StepRun.{StepRun, state_in, kept_at, with_plan, without_plan, KeptPlan}
 
 -- Which steps of a task are in turn: its entry and its change where they come next, a plan while its entry is open and the call isn't done,
 -- the call besides only where a plan is kept, and the end of the entry where the call is done.

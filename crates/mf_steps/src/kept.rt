@@ -1,34 +1,44 @@
 //! The plans that steps keep.
-ghost use Rattle.std.specs.Prelude.{◌≡◌, ◌<◌, length, map, slice_set, Some, None, is_some, IfOk};
+ghost use Rattle.std.specs.Prelude.{◌≡◌, ◌<◌, length, map, slice_set, MatchOption, Some, None, is_some, IfOk};
+ghost use Rattle.mf_core.specs.declared.progress.Turn.TheVariants as turn;
+ghost use Rattle.mf_core.specs.CoreView.{run_state, turn_at};
+ghost use Rattle.mf_core.specs.Next.{next_plan};
+ghost use Rattle.mf_perform.specs.Verdict.{verdict_of};
+ghost use Rattle.mf_plan.specs.Planned.{Plan};
 ghost use Rattle.mf_steps.specs.StepRun.{kept_at};
 
 use mf_calls::Task;
+use mf_core::Core;
+use mf_list::Listed;
 use mf_names::Listing;
 use mf_perform::Verdict;
-use mf_plan::Plan;
+use mf_plan::{Outline, Plan};
+use mf_policy::Policy;
 use std::alloc::{AllocError, Global};
 use std::marker::Model;
 
-/// A plan, with the policies' verdict on it.
+/// Where the plans of a task's calls lie, one after another, since a plan is too large to be moved. With a verdict of the policies
+/// the plan is kept; without one there is its room alone.
 #[derive(Drop)]
-pub struct KeptPlan {
-    pub plan: Plan,
-    pub verdict: Verdict,
+pub(crate) struct PlanRoom {
+    plan: Plan,
+    verdict: Option<Verdict>,
 }
 
 /// The plan that is kept for each task, where there is one. Contracts see the list.
 #[derive(Drop)]
-pub struct KeptPlans {
-    items: Vec<Option<KeptPlan>>,
+pub(crate) struct KeptPlans {
+    rooms: Vec<PlanRoom>,
 }
 
 impl Model for KeptPlans {
-    ghost use Rattle.std.specs.Prelude.{List, Option};
-    ghost use Rattle.mf_steps.specs.declared.kept.KeptPlan.{KeptPlan};
+    ghost use Rattle.std.specs.Prelude.{map, List, Option};
+    ghost use Rattle.mf_steps.specs.StepRun.{KeptPlan};
+    ghost use Rattle.mf_steps.specs.PlanRoom.{kept_in};
 
     ghost Value = { List (Option KeptPlan) };
 
-    ghost view = { λ a. a.items.items };
+    ghost view = { λ a. map kept_in a.rooms.items };
 }
 
 impl KeptPlans {
@@ -36,11 +46,14 @@ impl KeptPlans {
     pub fn for_tasks(alloc: Global, tasks: &Listing<Task>) -> Result<Self, AllocError>
         ensures { IfOk result (λ kept. kept ≡ map (λ task. None) tasks.now) }
     {
-        let mut items = Vec::new(alloc);
+        let mut rooms = Vec::new(alloc);
         for _task in tasks.as_slice() {
-            items.push(None)?;
+            rooms.push(PlanRoom {
+                plan: Plan::new(),
+                verdict: None,
+            })?;
         }
-        Ok(KeptPlans { items })
+        Ok(KeptPlans { rooms })
     }
 
     /// Whether a plan is kept for the task.
@@ -48,23 +61,40 @@ impl KeptPlans {
         requires { task < length self.now }
         ensures { result ≡ is_some (kept_at self.now task) }
     {
-        self.items[task].is_some()
+        self.rooms[task].verdict.is_some()
     }
 
-    /// Keeps the plan for the task, in place of the one that it may have.
-    pub fn keep(&mut self, task: usize, plan: KeptPlan)
-        requires { task < length self.old }
-        ensures { self.new ≡ slice_set self.old task (Some plan) }
+    /// Keeps the plan of the call that the task has entered for, from the core's present state, with the verdict of these policies
+    /// on it, in place of the plan that the task may have.
+    pub fn keep<P: Policy>(&mut self, task: u32, core: &Core<'_>, list: &Listed<'_, P>)
+        requires place { task < length self.old }
+        requires task { task < length core.now.script.tasks }
+        requires turn { turn_at core.now task ≡ turn.Entered }
+        ensures { (plan : Plan) × (next_plan core.now.script (run_state core.now) task ≡ Some plan)
+            × (self.new ≡ slice_set self.old task
+            (Some (record { plan = plan; verdict = verdict_of list.now plan }))) }
     {
-        self.items[task] = Some(plan);
+        let room = &mut self.rooms[task as usize];
+        core.plan(task, &mut room.plan, &mut Outline::new());
+        room.verdict = Some(Core::walk(list, &room.plan));
     }
 
-    /// Takes out the plan that is kept for the task.
-    pub fn take(&mut self, task: usize) -> Option<KeptPlan>
-        requires { task < length self.old }
-        ensures taken { result ≡ kept_at self.old task }
-        ensures new { self.new ≡ slice_set self.old task None }
+    /// The plan that is kept for the task, and the policies' verdict on it.
+    pub fn get(&self, task: usize) -> Option<(&Plan, &Verdict)>
+        requires { task < length self.now }
+        ensures { MatchOption result (kept_at self.now task ≡ None) (λ kept. kept_at self.now task
+            ≡ Some (record { plan = kept.0.now; verdict = kept.1.now })) }
     {
-        self.items[task].take()
+        let room = &self.rooms[task];
+        let verdict = room.verdict.as_ref()?;
+        Some((&room.plan, verdict))
+    }
+
+    /// Keeps no plan for the task any longer.
+    pub fn forget(&mut self, task: usize)
+        requires { task < length self.old }
+        ensures { self.new ≡ slice_set self.old task None }
+    {
+        self.rooms[task].verdict = None;
     }
 }

@@ -6,6 +6,5 @@ mod laws;
 mod stepper;
 mod stepping;
 
-pub use kept::KeptPlan;
 pub use laws::{step_runs_are_legal, step_runs_end_one_way, step_texts_tell_histories};
 pub use stepping::{Stepped, run_steps};

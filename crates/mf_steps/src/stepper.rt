@@ -9,12 +9,12 @@ ghost use Rattle.mf_steps.specs.Answers.{DoesStep, PrintsLast, StepsOrNot};
 ghost use Rattle.mf_steps.specs.StepRun.{step_opening};
 ghost use Rattle.mf_steps.specs.Steps.{Does, IsInTurn, stale_text, waits_text};
 
-use crate::kept::{KeptPlan, KeptPlans};
+use crate::kept::KeptPlans;
 use mf_calls::{Script, Step, StepKind};
 use mf_core::{ChangeOutcome, Commit, Core, Event, Turn};
 use mf_hist::print_event;
 use mf_list::{Catalogue, Fixed, Listed, PolicyList};
-use mf_plan::{Outline, Plan};
+use mf_plan::Plan;
 use mf_policy::Policy;
 use std::alloc::{AllocError, Global};
 use std::marker::Model;
@@ -28,6 +28,8 @@ pub struct Stepper<'s, P: Policy> {
     list: PolicyList<P>,
     catalogue: Catalogue<P>,
     kept: KeptPlans,
+    /// The plan of the last change, whose room is used again.
+    change: Plan,
 }
 
 impl<'s, P: Policy> Model for Stepper<'s, P> {
@@ -65,6 +67,7 @@ impl<'s, P: Policy> Stepper<'s, P> {
             list,
             catalogue,
             kept,
+            change: Plan::new(),
         })
     }
 
@@ -162,11 +165,8 @@ impl<'s, P: Policy> Stepper<'s, P> {
         ensures does { Does self.old.core.script (step_run self.old) step.Plan task []
             (step_run self.new) }
     {
-        let mut plan = Plan::new();
-        self.core.plan(task, &mut plan, &mut Outline::new());
         let listed = Listed::new(&self.fixed, &self.list);
-        let verdict = Core::walk(&listed, &plan);
-        self.kept.keep(task as usize, KeptPlan { plan, verdict });
+        self.kept.keep(task, &self.core, &listed);
     }
 
     fn done(&mut self, alloc: Global, task: u32, out: &mut String) -> Result<(), AllocError>
@@ -176,12 +176,13 @@ impl<'s, P: Policy> Stepper<'s, P> {
         ensures does { OnOk result (DoesStep self.old step.Done task self.new (string_bytes out.old)
             (string_bytes out.new)) }
     {
-        let Some(kept) = self.kept.take(task as usize) else {
+        let Some((plan, verdict)) = self.kept.get(task as usize) else {
             unreachable!()
         };
-        let KeptPlan { plan, verdict } = kept;
         let listed = Listed::new(&self.fixed, &self.list);
-        match self.core.done(alloc, task, &listed, &plan, &verdict)? {
+        let outcome = self.core.done(alloc, task, &listed, plan, verdict);
+        self.kept.forget(task as usize);
+        match outcome? {
             Commit::Done => {
                 let events = self.core.history().events.as_slice();
                 print_last(self.script, events, out)
@@ -214,6 +215,7 @@ impl<'s, P: Policy> Stepper<'s, P> {
             &self.fixed,
             &mut self.list,
             &mut self.catalogue,
+            &mut self.change,
         )? {
             ChangeOutcome::Done => {
                 let events = self.core.history().events.as_slice();

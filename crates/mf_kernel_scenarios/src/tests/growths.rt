@@ -200,6 +200,7 @@ fn change<P: Policy>(
         &machine.fixed,
         &mut machine.list,
         &mut machine.catalogue,
+        &mut Plan::new(),
     )
 }
 

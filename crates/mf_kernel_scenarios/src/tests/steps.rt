@@ -80,7 +80,7 @@ fn try_change<P: Policy, R: Abort>(
     ensures policies { AreOf (specs_of core.new) fixed.now list.new catalogue.new }
 {
     assert!(rt; core.turn(1) == Turn::Change);
-    core.change(alloc, 1, fixed, list, catalogue)
+    core.change(alloc, 1, fixed, list, catalogue, &mut Plan::new())
 }
 
 /// Task 1 would change the list of policies while task 0 is in its entry, and does once that has ended: the history of that.
