@@ -1,40 +1,42 @@
-//! Which ports a subject may bind a socket to by mac_portacl(4).
-ghost use Rattle.std.specs.Prelude.{◌≡◌, ◌&&◌, ◌==◌, if◌then◌else◌, not};
+//! Why mac_portacl(4) denies: a port is guarded, its subject isn't exempt, and no rule names both.
+ghost use Rattle.std.specs.Prelude.{◌≡◌, ◌&&◌, ◌==◌, if◌then◌else◌, not, position};
 ghost use Rattle.mf_cred.specs.Groups.{in_group};
-ghost use Rattle.std.specs.List.{list_any};
-ghost use Rattle.mf_policy.specs.Ports as spec;
+ghost use Rattle.mf_policy.specs.Ports as ports;
+ghost use Rattle.mf_answers.specs.Reasons as spec;
 
-use crate::views::errno_unless;
+use crate::reasons::Reason;
 use mf_cred::Cred;
-use mf_errno::Errno;
 use mf_item::{CheckOp, Item};
 use mf_rule::PortRule;
 
-/// What these rules about ports and settings of the policy answer to an item. Everything but a binding passes.
-pub fn binding_answer(
+/// Why a subject doesn't bind a port, by these rules and settings of the policy. Everything but a binding passes.
+pub fn port_reason(
     rules: &[PortRule],
     port_high: u32,
     suser: bool,
     autoport: bool,
     item: &Item,
-) -> Errno
-    ensures { result ≡ spec.binding_answer
-        (spec.may_bind rules.now port_high suser autoport item.now.subject.cred)
-        item.now.op item.now.port }
+) -> Option<Reason>
+    ensures { result ≡ spec.port_reason rules.now port_high suser autoport item.now }
 {
     if !matches!(item.op(), CheckOp::SocketBind) {
-        return Errno::Success;
+        return None;
     }
-    let Some(port) = item.port() else {
-        return Errno::Success;
-    };
+    let port = item.port()?;
     let cred = &item.subject().cred;
-    let may_bind = may_bind(rules, port_high, suser, autoport, cred, port);
-    errno_unless(may_bind, Errno::Eperm)
+    if may_bind(rules, port_high, suser, autoport, cred, port) {
+        return None;
+    }
+    Some(Reason::Port {
+        tcp: port.0,
+        port: port.1,
+        uid: cred.uid,
+    })
 }
 
 /// Whether a subject may bind a port: one above those that are guarded; with the settings, one that the kernel chooses, and any
 /// where it is root; and one that a rule gives it.
+#[tactic(auto, using(crate::proofs::Places::some_place))]
 fn may_bind(
     rules: &[PortRule],
     port_high: u32,
@@ -43,47 +45,35 @@ fn may_bind(
     cred: &Cred,
     port: (bool, u16),
 ) -> bool
-    ensures { result ≡ spec.may_bind rules.now port_high suser autoport cred.now port }
+    ensures { result ≡ ports.may_bind rules.now port_high suser autoport cred.now port }
 {
     port_high < port.1 as u32
         || (autoport && port.1 == 0)
         || (suser && cred.is_root())
-        || is_given(rules, cred, port)
+        || giving(rules, cred, port).is_some()
 }
 
-/// Whether a rule gives the subject the port.
-fn is_given(rules: &[PortRule], cred: &Cred, port: (bool, u16)) -> bool
+/// The place of the first rule that gives the subject the port.
+fn giving(rules: &[PortRule], cred: &Cred, port: (bool, u16)) -> Option<usize>
     ensures { result
-        ≡ list_any (λ rule. (if rule.tcp then port.0 else not port.0) && rule.port == port.1
+        ≡ position (λ rule. (if rule.tcp then port.0 else not port.0) && rule.port == port.1
         && (if rule.group then in_group cred.now rule.id else cred.now.uid == rule.id)) rules.now }
 {
-    rules.iter().any(|rule| gives(rule, cred, port))
+    rules.iter().position(|rule| gives(rule, cred, port))
 }
 
-/// Whether the rule gives the subject the port.
+/// Whether the rule names the subject, by one of its groups or by its effective uid, and the port, of TCP or else of UDP.
 fn gives(rule: &PortRule, cred: &Cred, port: (bool, u16)) -> bool
     ensures { result ≡ ((if rule.now.tcp then port.0 else not port.0) && rule.now.port == port.1
         && (if rule.now.group then in_group cred.now rule.now.id
         else cred.now.uid == rule.now.id)) }
 {
-    is_for(port, rule) && is_held_by(cred, rule)
-}
-
-/// Whether the rule is for the port, of TCP or else of UDP.
-fn is_for(port: (bool, u16), rule: &PortRule) -> bool
-    ensures { result ≡ ((if rule.now.tcp then port.0 else not port.0) && rule.now.port == port.1) }
-{
-    rule.tcp == port.0 && rule.port == port.1 as u32
-}
-
-/// Whether the rule is for the subject, by one of its groups or by its effective uid.
-fn is_held_by(cred: &Cred, rule: &PortRule) -> bool
-    ensures { result
-        ≡ (if rule.now.group then in_group cred.now rule.now.id else cred.now.uid == rule.now.id) }
-{
-    if rule.group {
+    let (tcp, number) = port;
+    if rule.tcp != tcp || rule.port != number as u32 {
+        false
+    } else if rule.group {
         cred.in_group(rule.id)
     } else {
-        cred.uid == rule.id
+        rule.id == cred.uid
     }
 }

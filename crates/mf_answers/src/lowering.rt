@@ -5,7 +5,7 @@ ghost use Rattle.mf_policy.specs.Answer.{object_slot};
 ghost use Rattle.mf_policy.specs.Lowering as spec;
 
 use crate::columns::moves_to_subject;
-use crate::elements::range_label;
+use crate::elements::element_in;
 use mf_elem::{Elem, LabelValue, RangeLabel, SLOTS, dominates};
 use mf_item::{Item, ObjectView};
 
@@ -26,7 +26,7 @@ fn lowered_value(own: &LabelValue, other: &LabelValue) -> LabelValue
 {
     match own {
         LabelValue::Range(label) => LabelValue::Range(RangeLabel {
-            effective: least(&label.effective, &range_label(other).effective),
+            effective: least(&label.effective, element_in(other)),
             range: label.range,
         }),
         LabelValue::Unset | LabelValue::Number(_) => *own,
@@ -34,8 +34,8 @@ fn lowered_value(own: &LabelValue, other: &LabelValue) -> LabelValue
 }
 
 /// The object's element where it doesn't dominate the subject's, and else the subject's own, which may be none.
-fn least(subject: &Option<Elem>, object: &Option<Elem>) -> Option<Elem>
-    ensures { result ≡ spec.lowered_element subject.now object.now }
+fn least(subject: &Option<Elem>, object: Option<&Elem>) -> Option<Elem>
+    ensures { result ≡ spec.lowered_element subject.now (option_copied object.entry) }
 {
     match (subject, object) {
         (Some(own), Some(other)) if !dominates(other, own) => Some(*other),

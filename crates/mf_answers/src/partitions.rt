@@ -1,46 +1,53 @@
-//! What mac_partition(4) answers: a subject in a partition sees what is in it, and one in none, which is partition 0, everything.
+//! Why mac_partition(4) denies: a subject in a partition sees what is in it, and one in none, which is partition 0, everything.
 ghost use Rattle.std.specs.Prelude.{◌≡◌, ◌<◌, option_and_then, option_copied, unwrap_or};
 ghost use Rattle.mf_errno.specs.declared.module.Module.TheVariants as modules;
-ghost use Rattle.mf_policy.specs.Answer as spec;
+ghost use Rattle.mf_policy.specs.Answer as answers;
 ghost use Rattle.mf_policy.specs.Modules.{number_asked, partition_of};
+ghost use Rattle.mf_answers.specs.Reasons as spec;
 
 use crate::columns::partition_test_of;
-use crate::views::{errno_unless, object_slot};
-use mf_cred::Cred;
+use crate::reasons::Reason;
 use mf_elem::{LabelValue, Request, SLOTS};
-use mf_errno::Errno;
-use mf_item::Item;
+use mf_item::{Item, ObjectView};
 use mf_policy::PartitionTest;
 
-/// What the policy, which holds this slot, answers to an item.
-pub fn partition_answer(slot: u8, item: &Item) -> Errno
+/// Why the policy, which holds this slot, denies an item.
+#[inline(always)]
+pub fn partition_reason(slot: u8, item: &Item) -> Option<Reason>
     requires { slot < SLOTS }
-    ensures { result ≡ spec.partition_answer slot item.now }
+    ensures { result ≡ spec.partition_reason slot item.now }
 {
-    partition_verdict(
+    partitions_reason(
         partition_test_of(item.op()),
-        &item.subject().cred,
+        item.subject().cred.uid,
         partition_of(&item.subject().label[slot as usize]),
-        partition_of(&object_slot(item.object(), slot)),
+        object_partition(item.object(), slot),
         partition_asked(item.request()),
     )
 }
 
-/// The answer to a subject of one partition about an object of another, where the subject asks for this one. Only root takes on a
-/// partition, and anybody may ask for none.
-fn partition_verdict(
+/// Why a subject of this effective uid and one partition is denied, where the object has another and the subject asks for the
+/// third. Only root takes on a partition, and anybody may ask for none.
+#[inline(always)]
+fn partitions_reason(
     test: PartitionTest,
-    cred: &Cred,
+    uid: u32,
     subject: u32,
     object: u32,
     asked: u32,
-) -> Errno
-    ensures { result ≡ spec.partition_verdict test cred.now subject object asked }
+) -> Option<Reason>
+    ensures { result ≡ spec.partitions_reason test uid subject object asked }
 {
     match test {
-        PartitionTest::Agree(errno) => errno_unless(subject == 0 || subject == object, errno),
-        PartitionTest::Join => errno_unless(asked == 0 || cred.is_root(), Errno::Eperm),
-        PartitionTest::Ignore => Errno::Success,
+        PartitionTest::Agree(errno) if subject != 0 && subject != object => {
+            Some(Reason::Partitions {
+                subject,
+                object,
+                errno,
+            })
+        }
+        PartitionTest::Join if asked != 0 && uid != 0 => Some(Reason::Joins { asked, uid }),
+        PartitionTest::Agree(_) | PartitionTest::Join | PartitionTest::Ignore => None,
     }
 }
 
@@ -51,6 +58,17 @@ fn partition_of(value: &LabelValue) -> u32
     match value {
         LabelValue::Number(partition) => *partition,
         LabelValue::Unset | LabelValue::Range(_) => 0,
+    }
+}
+
+/// The partition of the object; 0 where there is no object.
+fn object_partition(object: Option<&ObjectView>, slot: u8) -> u32
+    requires { slot < SLOTS }
+    ensures { result ≡ partition_of (answers.object_slot (option_copied object.entry) slot) }
+{
+    match object {
+        Some(view) => partition_of(&view.label[slot as usize]),
+        None => 0,
     }
 }
 

@@ -1,79 +1,112 @@
-//! The rules for relabels of mac_biba(4) and mac_mls(4).
-ghost use Rattle.std.specs.Prelude.{◌≡◌, ◌&&◌, ◌||◌, not, false, is_some};
-ghost use Rattle.std.specs.Option.{option_map_or, option_or};
+//! Why relabels are denied.
+ghost use Rattle.std.specs.Prelude.{◌≡◌, false};
+ghost use Rattle.std.specs.Option.{option_map_or};
 ghost use Rattle.mf_elem.specs.Elem.{is_equal};
-ghost use Rattle.mf_elem.specs.Label.{is_privileged};
-ghost use Rattle.mf_policy.specs.Relabel as spec;
+ghost use Rattle.mf_policy.specs.Relabel as relabels;
+ghost use Rattle.mf_answers.specs.Reasons as spec;
 
-use mf_elem::{Elem, RangeLabel, has_equal, in_range, privileged, range_in_range};
-use mf_errno::Errno;
+use crate::reasons::Reason;
+use mf_elem::{Elem, RangeLabel, dominates, has_equal, in_range, privileged, range_in_range};
 
-/// The answer to a subject of one label that asks for the other of its own: EINVAL where the range that it asks for leaves out the
-/// element that it would have; EPERM where it asks for what its own range doesn't hold, or for `equal` without privilege.
-pub fn credential_relabel(subject: &RangeLabel, asked: &RangeLabel) -> Errno
-    ensures { result ≡ spec.credential_relabel subject.now asked.now }
-{
-    if leaves_itself_out(subject, asked) {
-        Errno::Einval
-    } else if asks_for_more(subject, asked) {
-        Errno::Eperm
-    } else if has_equal(asked) && !privileged(subject) {
-        Errno::Eperm
-    } else {
-        Errno::Success
-    }
-}
-
-/// Whether the range that a subject asks for leaves out its element, the one that it asks for or else its present one.
-fn leaves_itself_out(subject: &RangeLabel, asked: &RangeLabel) -> bool
-    ensures { result ≡ (is_some asked.now.range
-        && spec.is_outside (option_or asked.now.effective subject.now.effective) asked.now.range) }
+/// Why by mac_biba(4) and mac_mls(4) a subject of one label doesn't get the other, which it asks for its own.
+pub fn own_reason(subject: &RangeLabel, asked: &RangeLabel) -> Option<Reason>
+    ensures { result ≡ spec.own_reason subject.now asked.now }
 {
     let element = asked.effective.or(subject.effective);
-    asked.range.is_some() && is_outside(&element, &asked.range)
+    if asked.range.is_some() && is_outside(&element, &asked.range) {
+        Some(Reason::LeavesOut {
+            element,
+            asked: asked.range,
+        })
+    } else if reaches_out(&asked.range, &subject.range) {
+        Some(Reason::RangeOutside {
+            asked: asked.range,
+            own: subject.range,
+        })
+    } else {
+        new_reason(subject, asked, has_equal(asked))
+    }
 }
 
-/// Whether a subject asks for a range or an element that its own range doesn't hold.
-fn asks_for_more(subject: &RangeLabel, asked: &RangeLabel) -> bool
-    ensures { result ≡ (spec.reaches_out asked.now.range subject.now.range
-        || spec.is_outside asked.now.effective subject.now.range) }
-{
-    reaches_out(&asked.range, &subject.range) || is_outside(&asked.effective, &subject.range)
-}
-
-/// The answer to a subject of one label that asks for the other of an object with the old element: EINVAL where it asks for a
-/// range, which objects don't have; EPERM where its range doesn't hold the old or the new element, or the new one is `equal` and it
-/// has no privilege.
-pub fn object_relabel(subject: &RangeLabel, old: &Elem, asked: &RangeLabel) -> Errno
-    ensures { result ≡ spec.object_relabel subject.now old.now asked.now }
+/// Why by these a subject of one label doesn't give the other to an object with the old element.
+pub fn object_reason(subject: &RangeLabel, old: &Elem, asked: &RangeLabel) -> Option<Reason>
+    ensures { result ≡ spec.object_reason subject.now old.now asked.now }
 {
     if asked.range.is_some() {
-        Errno::Einval
-    } else if is_outside(&Some(*old), &subject.range)
-        || is_outside(&asked.effective, &subject.range)
-    {
-        Errno::Eperm
-    } else if makes_equal(subject, &asked.effective) {
-        Errno::Eperm
+        Some(Reason::RangeOfObject { asked: asked.range })
+    } else if is_outside(&Some(*old), &subject.range) {
+        Some(Reason::PresentOutside {
+            object: *old,
+            own: subject.range,
+        })
     } else {
-        Errno::Success
+        new_reason(subject, asked, is_equal_element(&asked.effective))
     }
 }
 
-/// Whether a subject without privilege gives the element `equal`.
-fn makes_equal(subject: &RangeLabel, element: &Option<Elem>) -> bool
-    ensures { result
-        ≡ (option_map_or is_equal element.now false && not (is_privileged subject.now)) }
+/// Why a subject of one label doesn't assign the element of the other, by whether that asks for `equal`.
+fn new_reason(subject: &RangeLabel, asked: &RangeLabel, equal: bool) -> Option<Reason>
+    ensures { result ≡ spec.new_reason subject.now asked.now.effective equal }
 {
-    match element {
-        Some(Elem::Equal) => !privileged(subject),
-        Some(Elem::Low | Elem::High | Elem::Grade(..)) | None => false,
+    if is_outside(&asked.effective, &subject.range) {
+        Some(Reason::AskedOutside {
+            asked: asked.effective,
+            own: subject.range,
+        })
+    } else if equal && !privileged(subject) {
+        Some(Reason::AsksEqual { own: *subject })
+    } else {
+        None
     }
+}
+
+/// Why by mac_lomac(4) a subject doesn't take or give an element: one that it doesn't dominate, or `equal` where it isn't `equal`
+/// itself.
+pub fn assign_reason(subject: &Elem, asked: &Option<Elem>) -> Option<Reason>
+    ensures { result ≡ spec.assign_reason subject.now asked.now }
+{
+    match asked {
+        None => None,
+        Some(asked) if !dominates(subject, asked) => Some(Reason::AskedAbove {
+            subject: *subject,
+            asked: *asked,
+        }),
+        Some(asked) if is_equal(asked) && !is_equal(subject) => {
+            Some(Reason::EqualAbove { subject: *subject })
+        }
+        Some(_) => None,
+    }
+}
+
+/// Why by mac_lomac(4) a subject doesn't give an element to an object with the old one.
+pub fn give_reason(subject: &Elem, old: &Elem, asked: &Option<Elem>) -> Option<Reason>
+    ensures { result ≡ spec.give_reason subject.now old.now asked.now }
+{
+    if dominates(subject, old) {
+        assign_reason(subject, asked)
+    } else {
+        Some(Reason::PresentAbove {
+            subject: *subject,
+            object: *old,
+        })
+    }
+}
+
+fn is_equal(element: &Elem) -> bool
+    ensures { result ≡ is_equal element.now }
+{
+    matches!(element, Elem::Equal)
+}
+
+fn is_equal_element(element: &Option<Elem>) -> bool
+    ensures { result ≡ option_map_or is_equal element.now false }
+{
+    matches!(element, Some(Elem::Equal))
 }
 
 /// Whether an element that is there lies outside the range; all lie outside where there is no range.
 fn is_outside(element: &Option<Elem>, range: &Option<(Elem, Elem)>) -> bool
-    ensures { result ≡ spec.is_outside element.now range.now }
+    ensures { result ≡ relabels.is_outside element.now range.now }
 {
     let Some(element) = element else {
         return false;
@@ -86,7 +119,7 @@ fn is_outside(element: &Option<Elem>, range: &Option<(Elem, Elem)>) -> bool
 
 /// Whether a range that is there reaches out of the other.
 fn reaches_out(inner: &Option<(Elem, Elem)>, range: &Option<(Elem, Elem)>) -> bool
-    ensures { result ≡ spec.reaches_out inner.now range.now }
+    ensures { result ≡ relabels.reaches_out inner.now range.now }
 {
     let Some((inner_low, inner_high)) = inner else {
         return false;

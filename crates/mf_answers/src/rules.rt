@@ -1,79 +1,100 @@
-//! What the rules about files of mac_bsdextended(4) answer. Each rule is looked at in turn.
-ghost use Rattle.std.specs.Prelude.{◌≡◌, ◌||◌, not, true, false, find, option_copied};
-ghost use Rattle.mf_policy.specs.Answer as spec;
-ghost use Rattle.mf_rule.specs.RuleList.{is_match, slot_gives, verdict};
+//! Why the rules about files of mac_bsdextended(4) deny: which of them decides. Each rule is looked at in turn.
+ghost use Rattle.std.specs.Prelude.{◌≡◌, ◌≤◌, ◌&&◌, not, length, position};
+ghost use Rattle.mf_rule.specs.RuleList.{is_match, slot_gives};
+ghost use Rattle.mf_answers.specs.Reasons as spec;
 
 use crate::columns::letters_of;
-use crate::views::{attributes_of, errno_unless};
+use crate::reasons::Reason;
+use crate::views::attributes_of;
 use mf_cred::{Cred, FileView};
-use mf_errno::Errno;
 use mf_item::Item;
-use mf_rule::Rule;
+use mf_rule::{MAX_RULES, Rule};
 
-/// What the rules answer to an item: they are asked where its operation has letters.
-pub fn rules_answer(rules: &[Option<Rule>], first_match: bool, item: &Item) -> Errno
-    ensures { result ≡ spec.rules_answer rules.now first_match item.now }
+/// Why the rules deny an item: they are asked where its operation has letters.
+pub fn rules_reason(rules: &[Option<Rule>], first_match: bool, item: &Item) -> Option<Reason>
+    requires { length rules.now ≤ MAX_RULES }
+    ensures { result ≡ spec.rules_reason rules.now first_match item.now }
 {
     match letters_of(item.op()) {
-        None => Errno::Success,
+        None => None,
         Some(letters) => {
             let file = attributes_of(item.object());
-            let allowed = verdict(rules, first_match, &item.subject().cred, &file, letters);
-            errno_unless(allowed, Errno::Eacces)
+            verdict_reason(rules, first_match, &item.subject().cred, &file, letters)
         }
     }
 }
 
-/// Whether the rules give the subject all of the letters for the file. What no rule matches is allowed.
-fn verdict(
+/// Why the rules don't give the subject all of the letters for the file. What no rule matches is allowed.
+fn verdict_reason(
     rules: &[Option<Rule>],
     first_match: bool,
     cred: &Cred,
     file: &FileView,
     wanted: u8,
-) -> bool
-    ensures { result ≡ verdict first_match rules.now cred.now file.now wanted }
+) -> Option<Reason>
+    requires { length rules.now ≤ MAX_RULES }
+    ensures { result ≡ spec.verdict_reason first_match rules.now cred.now file.now wanted }
 {
-    if first_match {
-        first_gives(rules, cred, file, wanted)
-    } else {
-        all_give(rules, cred, file, wanted)
+    match deciding(rules, first_match, cred, file, wanted) {
+        None => None,
+        Some(number) => slot_reason(&rules[number], number as u32, wanted),
     }
 }
 
-/// Whether the first rule that matches gives the letters, if there is one.
-fn first_gives(rules: &[Option<Rule>], cred: &Cred, file: &FileView, wanted: u8) -> bool
-    ensures { result ≡ verdict true rules.now cred.now file.now wanted }
-{
-    match first_matching(rules, cred, file) {
-        None => true,
-        Some(slot) => gives(slot, wanted),
-    }
-}
-
-/// The first rule that matches.
-fn first_matching<'r>(
-    rules: &'r [Option<Rule>],
+/// The number of the rule that decides: with first match the least that matches, and without the least that matches and lacks a
+/// letter.
+fn deciding(
+    rules: &[Option<Rule>],
+    first_match: bool,
     cred: &Cred,
     file: &FileView,
-) -> Option<&'r Option<Rule>>
-    ensures { option_copied result ≡ find (is_match cred.now file.now) rules.now }
+    wanted: u8,
+) -> Option<usize>
+    ensures { result ≡ spec.deciding first_match rules.now cred.now file.now wanted }
 {
-    rules.iter().find(|slot| is_match(slot, cred, file))
+    if first_match {
+        first_matching(rules, cred, file)
+    } else {
+        first_denying(rules, cred, file, wanted)
+    }
 }
 
-/// Whether every rule that matches gives the letters.
-fn all_give(rules: &[Option<Rule>], cred: &Cred, file: &FileView, wanted: u8) -> bool
-    ensures { result ≡ verdict false rules.now cred.now file.now wanted }
+/// The number of the first rule that matches.
+fn first_matching(rules: &[Option<Rule>], cred: &Cred, file: &FileView) -> Option<usize>
+    ensures { result ≡ position (is_match cred.now file.now) rules.now }
 {
-    rules.iter().all(|slot| lets_pass(slot, cred, file, wanted))
+    rules.iter().position(|slot| is_match(slot, cred, file))
 }
 
-/// Whether the rule doesn't match, or gives the letters.
-fn lets_pass(slot: &Option<Rule>, cred: &Cred, file: &FileView, wanted: u8) -> bool
-    ensures { result ≡ (not (is_match cred.now file.now slot.now) || slot_gives wanted slot.now) }
+/// The number of the first rule that matches and lacks a letter.
+fn first_denying(rules: &[Option<Rule>], cred: &Cred, file: &FileView, wanted: u8) -> Option<usize>
+    ensures { result ≡ position
+        (λ slot. is_match cred.now file.now slot && not (slot_gives wanted slot)) rules.now }
 {
-    !is_match(slot, cred, file) || gives(slot, wanted)
+    rules
+        .iter()
+        .position(|slot| denies(slot, cred, file, wanted))
+}
+
+/// The rule with that number as the reason, unless it gives the letters.
+fn slot_reason(slot: &Option<Rule>, number: u32, wanted: u8) -> Option<Reason>
+    ensures { result ≡ spec.slot_reason slot.now number wanted }
+{
+    match slot {
+        Some(rule) if !rule.gives(wanted) => Some(Reason::Rule {
+            number,
+            wanted,
+            given: rule.mode,
+        }),
+        Some(_) | None => None,
+    }
+}
+
+/// Whether the rule matches, and lacks a letter.
+fn denies(slot: &Option<Rule>, cred: &Cred, file: &FileView, wanted: u8) -> bool
+    ensures { result ≡ (is_match cred.now file.now slot.now && not (slot_gives wanted slot.now)) }
+{
+    is_match(slot, cred, file) && !gives(slot, wanted)
 }
 
 /// Whether there is a rule, and it matches.

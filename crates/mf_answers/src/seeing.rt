@@ -1,27 +1,36 @@
-//! Which processes a subject sees by mac_seeotheruids(4).
+//! Why mac_seeotheruids(4) denies.
 ghost use Rattle.std.specs.Prelude.{◌≡◌, slice_index_or};
-ghost use Rattle.mf_policy.specs.Answer.{attributes_of};
-ghost use Rattle.mf_policy.specs.Ports as spec;
+ghost use Rattle.mf_policy.specs.Ports as ports;
+ghost use Rattle.mf_answers.specs.Reasons as spec;
 
+use crate::columns::is_on_process;
+use crate::reasons::Reason;
 use crate::views::attributes_of;
 use mf_cred::{Cred, FileView};
 use mf_item::Item;
 
-/// Whether the subject of an item sees its object, by these settings of the policy.
-pub fn sees(primarygroup: bool, specific: bool, gid: u32, suser: bool, item: &Item) -> bool
-    ensures { result
-        ≡ spec.may_see primarygroup specific gid suser item.now.subject.cred
-        (attributes_of item.now.object) }
+/// Why by these settings of the policy a subject doesn't see the process that it does something to. All else passes.
+pub fn users_reason(
+    primarygroup: bool,
+    specific: bool,
+    gid: u32,
+    suser: bool,
+    item: &Item,
+) -> Option<Reason>
+    ensures { result ≡ spec.users_reason primarygroup specific gid suser item.now }
 {
+    if !is_on_process(item.op()) {
+        return None;
+    }
+    let cred = &item.subject().cred;
     let process = attributes_of(item.object());
-    may_see(
-        primarygroup,
-        specific,
-        gid,
-        suser,
-        &item.subject().cred,
-        &process,
-    )
+    if may_see(primarygroup, specific, gid, suser, cred, &process) {
+        return None;
+    }
+    Some(Reason::Users {
+        subject: cred.ruid,
+        object: process.uid,
+    })
 }
 
 /// Whether a subject sees a process: one of its own real uid; with the settings, one of its own primary group, any where it is in
@@ -34,7 +43,7 @@ fn may_see(
     subject: &Cred,
     process: &FileView,
 ) -> bool
-    ensures { result ≡ spec.may_see primarygroup specific gid suser subject.now process.now }
+    ensures { result ≡ ports.may_see primarygroup specific gid suser subject.now process.now }
 {
     subject.ruid == process.uid
         || (primarygroup && primary_group(subject) == process.gid)

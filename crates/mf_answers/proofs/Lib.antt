@@ -1,0 +1,4 @@
+pub mod Deciding
+pub mod Denying
+pub mod Errnos
+pub mod Places
