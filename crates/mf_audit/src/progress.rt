@@ -1,6 +1,7 @@
 //! How far each task is, as the player has it.
-ghost use Rattle.std.specs.Prelude.{◌≡◌, ◌<◌, ◌≤◌, ◌+◌, ◌^◌, length, map, IfOk};
+ghost use Rattle.std.specs.Prelude.{◌≡◌, ◌<◌, ◌≤◌, ◌+◌, ◌^◌, length, map, slice_set, if◌then◌else◌, IfOk};
 ghost use Rattle.mf_calls.specs.declared.limits.TheConstants.{TASK_LIMIT};
+ghost use Rattle.mf_core.specs.declared.progress.Phase.TheVariants as phases;
 ghost use Rattle.mf_core.specs.Advances.{left};
 ghost use Rattle.mf_core.specs.LegalHistory.{turn_at_line};
 ghost use Rattle.mf_core.specs.Progress as spec;
@@ -11,6 +12,12 @@ use mf_core::{Phase, Progress, Turn};
 use mf_names::Listing;
 use std::alloc::{AllocError, Global};
 use std::marker::Model;
+
+/// Where each task is at first.
+const BEFORE_THE_FIRST_LINE: Progress = Progress {
+    lines: 0,
+    phase: Phase::Idle,
+};
 
 /// How far each task is, in their order. Contracts see the list.
 #[derive(Drop)]
@@ -34,10 +41,7 @@ impl Standings {
     {
         let mut items = Vec::new(alloc);
         for _task in tasks.as_slice() {
-            items.push(Progress {
-                lines: 0,
-                phase: Phase::Idle,
-            })?;
+            items.push(BEFORE_THE_FIRST_LINE)?;
         }
         Ok(Standings { items })
     }
@@ -57,13 +61,30 @@ impl Standings {
         self.items[task]
     }
 
+    fn put(&mut self, task: usize, standing: Progress)
+        requires { task < length self.old }
+        ensures { self.new ≡ slice_set self.old task standing }
+    {
+        self.items[task] = standing;
+    }
+
     /// Sets the phase of the task.
     pub fn set_phase(&mut self, task: usize, phase: Phase)
         requires { task < length self.old }
         ensures { self.new ≡ spec.with_phase self.old task phase }
     {
-        let lines = self.items[task].lines;
-        self.items[task] = Progress { lines, phase };
+        let standing = self.at(task);
+        self.put(task, Progress { phase, ..standing });
+    }
+
+    /// One more line of the task is done, and it is between its lines.
+    pub fn advance(&mut self, task: usize)
+        requires task { task < length self.old }
+        requires room { (spec.progress_at self.old task).lines + 1 < 2 ^ 32 }
+        ensures { self.new ≡ spec.with_line self.old task }
+    {
+        let standing = self.at(task);
+        self.put(task, behind_its_line(standing));
     }
 
     /// The task leaves its entry. Where its call is done it has one more line, else it stops.
@@ -72,70 +93,67 @@ impl Standings {
         requires room { (spec.progress_at self.old task).lines + 1 < 2 ^ 32 }
         ensures { self.new ≡ spec.with_left self.old task }
     {
-        let progress = self.at(task);
-        self.items[task] = left(progress);
+        let standing = self.at(task);
+        self.put(task, behind_its_entry(standing));
     }
 
-    /// One more line of the task is done.
-    pub fn advance(&mut self, task: usize)
-        requires task { task < length self.old }
-        requires room { (spec.progress_at self.old task).lines + 1 < 2 ^ 32 }
-        ensures { self.new ≡ spec.with_line self.old task }
-    {
-        let lines = self.items[task].lines + 1;
-        self.items[task] = Progress {
-            lines,
-            phase: Phase::Idle,
-        };
-    }
-
-    /// How many entries are open.
+    /// How many tasks are in an entry.
     pub fn open_entries(&self) -> u32
         requires { length self.now ≤ TASK_LIMIT }
         ensures { result ≡ spec.open_entries self.now }
     {
-        let mut count = 0;
-        for progress in &self.items {
-            count += open_in(progress.phase);
+        let mut inside = 0;
+        for standing in &self.items {
+            if is_inside(standing.phase) {
+                inside += 1;
+            }
         }
-        count
+        inside
     }
 }
 
-/// 1 where the entry of the phase is open, and else 0.
-fn open_in(phase: Phase) -> u32
-    ensures { result ≡ spec.open_in phase }
+/// With one more line, and in no entry.
+fn behind_its_line(standing: Progress) -> Progress
+    requires { standing.lines + 1 < 2 ^ 32 }
+    ensures { result ≡ record { lines = standing.lines + 1; phase = phases.Idle } }
 {
-    match phase {
-        Phase::Idle | Phase::Stopped => 0,
-        Phase::Entered | Phase::Done => 1,
+    Progress {
+        lines: standing.lines + 1,
+        phase: Phase::Idle,
     }
 }
 
-/// Where a task is that leaves its entry.
-fn left(progress: Progress) -> Progress
-    requires { progress.lines + 1 < 2 ^ 32 }
-    ensures { result ≡ left progress }
+/// Where a task is that leaves its entry from there.
+fn behind_its_entry(standing: Progress) -> Progress
+    requires { standing.lines + 1 < 2 ^ 32 }
+    ensures { result ≡ left standing }
 {
-    match progress.phase {
-        Phase::Done => Progress {
-            lines: progress.lines + 1,
-            phase: Phase::Idle,
-        },
+    match standing.phase {
         Phase::Idle | Phase::Entered | Phase::Stopped => Progress {
-            lines: progress.lines,
             phase: Phase::Stopped,
+            ..standing
         },
+        Phase::Done => behind_its_line(standing),
     }
+}
+
+/// Whether a task in this phase is in an entry.
+fn is_inside(phase: Phase) -> bool
+    ensures { spec.open_in phase ≡ (if result then 1 else 0) }
+{
+    matches!(phase, Phase::Entered | Phase::Done)
 }
 
 /// The turn of a task between its lines, where this line comes next.
 pub fn turn_at(line: Option<&Line>) -> Turn
     ensures { result ≡ turn_at_line (option_copied line.entry) }
 {
-    match line {
-        None => Turn::Finished,
-        Some(line) if line.call.is_change() => Turn::Change,
-        Some(_) => Turn::Entry,
+    let Some(line) = line else {
+        return Turn::Finished;
+    };
+    if line.call.is_change() {
+        Turn::Change
+    } else {
+        Turn::Entry
     }
 }

@@ -63,10 +63,7 @@ pub(crate) fn add<'c>(
 fn owner_named(name: &str) -> Option<Module>
     ensures { result ≡ spec.owner_named name.now }
 {
-    match Sysctl::from_name(name) {
-        Some(setting) => Some(setting.owner()),
-        None => None,
-    }
+    Sysctl::from_name(name).map(Sysctl::owner)
 }
 
 /// Whether the name is that of a tunable of a listed module.

@@ -160,14 +160,8 @@ impl Asked {
     fn item<'a>(&'a self, subject: &'a SubjectView) -> Item<'a>
         ensures { result ≡ spec.item_with subject.now self.now }
     {
-        Item::new(
-            self.op,
-            subject,
-            self.object.as_ref(),
-            self.request.as_ref(),
-            self.privilege,
-            self.port,
-        )
+        let (object, request) = (self.object.as_ref(), self.request.as_ref());
+        Item::new(self.op, subject, object, request, self.privilege, self.port)
     }
 }
 
@@ -175,11 +169,12 @@ impl Asked {
 fn with_value(subject: &SubjectView, slot: u8, value: &LabelValue) -> SubjectView
     ensures { result ≡ with_slot slot value.now subject.now }
 {
-    let mut view = subject.copy();
-    if (slot as usize) < view.label.len() {
-        view.label[slot as usize] = *value;
+    let place = slot as usize;
+    let mut seen = subject.copy();
+    if place < seen.label.len() {
+        seen.label[place] = *value;
     }
-    view
+    seen
 }
 
 /// The subject of a check that this process asks.

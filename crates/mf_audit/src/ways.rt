@@ -47,9 +47,10 @@ pub(crate) fn named(kernel: &Kernel, kind: Kind, name: &Name) -> Result<PartyId,
 fn missing(kind: Kind) -> Errno
     ensures { result ≡ ways.missing kind }
 {
-    match kind {
-        Kind::Process => Errno::Esrch,
-        Kind::Vnode | Kind::Pipe | Kind::Socket => Errno::Enoent,
+    if matches!(kind, Kind::Process) {
+        Errno::Esrch
+    } else {
+        Errno::Enoent
     }
 }
 

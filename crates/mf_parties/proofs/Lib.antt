@@ -1,3 +1,4 @@
+pub mod FirstNames
 pub mod Reading
 pub mod Spelling
 pub mod Standing

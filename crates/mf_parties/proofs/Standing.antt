@@ -334,6 +334,11 @@ pub grown_place : (g : Growth) (id : Id) (o : Entities) (i : ℕ) (e new : LiveE
 grown_place g id o i e new at is standing ok =
     ap (λ (y : LiveEntity). let x : Entities = record o { live = set o.live i y } in x) ok ∙ placed (grown g) id o i e at is standing
 
+-- the party at the place is as it was
+pub kept_place : (o : Entities) (i : ℕ) (e new : LiveEntity) → e ≡ get_or o.live i e → new ≡ e → (let x : Entities = record o { live = set o.live i new } in x) ≡ o
+kept_place o i e new is same =
+    ap (λ (ls : List LiveEntity). let x : Entities = record o { live = ls } in x) (ap (set o.live i) (same ∙ is) ∙ set-get_or o.live i e)
+
 -- whether memory ran out or not
 pub grown_stands : (r : Result (Unit {0}) AllocError) (g : Growth) (id : Id) (o : Entities) (i : ℕ) (e new : LiveEntity) → position (has_id id) o.live ≡ Some i → e ≡ get_or o.live i e
     → IsOpenable o g → IsStanding o → OnOk r (new ≡ grown g e) → OnErr r (new ≡ e) → IsStanding (record o { live = set o.live i new })

@@ -1,5 +1,5 @@
 //! What a party is, and what a process has open.
-ghost use Rattle.std.specs.Prelude.{◌≡◌, IfOk};
+ghost use Rattle.std.specs.Prelude.{◌≡◌, IfOk, false};
 ghost use Rattle.mf_objects.specs.Changes as change;
 ghost use Rattle.mf_objects.specs.Descriptors as fds;
 ghost use Rattle.mf_objects.specs.Live as live;
@@ -239,25 +239,24 @@ impl What {
 fn process_file(cred: &Cred) -> FileView
     ensures { result ≡ live.process_file cred.now }
 {
-    let gid = match cred.groups.as_slice().first() {
-        Some(group) => *group,
-        None => 0,
-    };
-    FileView {
-        uid: cred.ruid,
-        gid,
-        mode: 0,
-        dir: false,
-    }
+    let groups = cred.groups.as_slice();
+    owned(cred.ruid, groups.first().copied().unwrap_or(0))
 }
 
 /// The attributes of what is no file.
 pub(crate) fn no_file() -> FileView
     ensures { result ≡ live.no_file }
 {
+    owned(0, 0)
+}
+
+/// Attributes with an owner and a group alone.
+fn owned(uid: u32, gid: u32) -> FileView
+    ensures { result ≡ record { uid = uid; gid = gid; mode = 0; dir = false } }
+{
     FileView {
-        uid: 0,
-        gid: 0,
+        uid,
+        gid,
         mode: 0,
         dir: false,
     }

@@ -1,5 +1,5 @@
-//! Changes of one party. After an `Err` the parties still stand as parties do, and nothing more is promised of them.
-ghost use Rattle.std.specs.Prelude.{◌≡◌, ◌<◌, [], drop, map, OnOk, position, if◌then◌else◌};
+//! Changes of one party. If memory runs out, the parties are as they were.
+ghost use Rattle.std.specs.Prelude.{◌≡◌, ◌<◌, [], drop, map, OnErr, OnOk, position, if◌then◌else◌};
 ghost use Rattle.mf_objects.specs.declared.limits.TheConstants.{ID_LIMIT};
 ghost use Rattle.mf_objects.specs.Changes as changes;
 ghost use Rattle.mf_objects.specs.Descriptors as fds;
@@ -31,8 +31,9 @@ impl Parties {
     ) -> Result<(), AllocError>
         requires next { self.old.next < ID_LIMIT }
         requires unopened { fds.fds_of (data_of what) ≡ [] }
-        ensures { OnOk result (self.new
+        ensures ok { OnOk result (self.new
             ≡ changes.with_entity self.old name.now label.now (data_of what)) }
+        ensures err { OnErr result (self.new ≡ self.old) }
     {
         let party = Party {
             id: PartyId::new(self.next),
@@ -47,18 +48,20 @@ impl Parties {
 
     /// Appends to a file or a pipe.
     pub fn append(&mut self, id: PartyId, bytes: &[u8]) -> Result<(), AllocError>
-        ensures { OnOk result (self.new
+        ensures ok { OnOk result (self.new
             ≡ changes.with_change (changes.with_what (changes.appended bytes.now)) self.old id) }
+        ensures err { OnErr result (self.new ≡ self.old) }
     {
         self.grow_at(id, Growth::Bytes(bytes))
     }
 
     /// Appends a message to those of a socket.
     pub fn deliver(&mut self, alloc: Global, id: PartyId, bytes: &[u8]) -> Result<(), AllocError>
-        ensures { OnOk result (self.new
+        ensures ok { OnOk result (self.new
             ≡ changes.with_change
             (changes.with_what (changes.with_messages (changes.with_message bytes.now)))
             self.old id) }
+        ensures err { OnErr result (self.new ≡ self.old) }
     {
         let message = Text::copy_of(alloc, bytes)?;
         self.grow_at(id, Growth::Message(message))
@@ -67,9 +70,10 @@ impl Parties {
     /// Opens a file for a process.
     pub fn open(&mut self, id: PartyId, file: OpenFile) -> Result<(), AllocError>
         requires { IsLive is_regular self.old file.file }
-        ensures { OnOk result (self.new
+        ensures ok { OnOk result (self.new
             ≡ changes.with_change (changes.with_what (fds.with_fds (fds.opened file)))
             self.old id) }
+        ensures err { OnErr result (self.new ≡ self.old) }
     {
         self.grow_at(id, Growth::Open(file))
     }
@@ -128,7 +132,8 @@ impl Parties {
 
     fn grow_at(&mut self, id: PartyId, growth: Growth) -> Result<(), AllocError>
         requires { IsOpenable self.old growth }
-        ensures { OnOk result (self.new ≡ changes.with_change (grown growth.entry) self.old id) }
+        ensures ok { OnOk result (self.new ≡ changes.with_change (grown growth.entry) self.old id) }
+        ensures err { OnErr result (self.new ≡ self.old) }
     {
         let Some(place) = place_of(&self.list, id) else {
             return Ok(());

@@ -12,7 +12,7 @@ returns-in_ok-append-in-Append c =
     let k = c.self.inside in
     let with_parties : Entities → State = λ o. record { objects = o; specs = k.listed; numbers = k.given; booted = true } in
     let of : State → Change → State = λ s e. after s c.args.me (effect_of s c.args.task.now c.args.me e) in
-    ap with_parties c.in_ok-append-in-Append.ensures
+    ap with_parties c.in_ok-append-in-Append.ensures.ok
     ∙ ap (λ (s : State). of s (does.Append c.in-Append.id c.in-Append.text)) c.self.view_is
     ∙ sym (ap (of c.args.self.now) c.in-Append.is)
 
@@ -21,7 +21,7 @@ returns-in_ok-deliver-in-Deliver c =
     let k = c.self-in-Deliver.inside in
     let with_parties : Entities → State = λ o. record { objects = o; specs = k.listed; numbers = k.given; booted = true } in
     let of : State → Change → State = λ s e. after s c.args.me (effect_of s c.args.task.now c.args.me e) in
-    ap with_parties c.in_ok-deliver-in-Deliver.ensures
+    ap with_parties c.in_ok-deliver-in-Deliver.ensures.ok
     ∙ ap (λ (s : State). of s (does.Deliver c.in-Deliver.id c.in-Deliver.text)) c.self-in-Deliver.view_is
     ∙ sym (ap (of c.args.self.now) c.in-Deliver.is)
 

@@ -1,6 +1,6 @@
 use Rattle.std.proofs.Common.{◌≡◌, ℕ, List, Bor, map, take, ap, sym, ◌∙◌}
 use Rattle.mf_objects.specs.Titles.{entry_names, in_byte_order}
-use Rattle.mf_objects.proofs.ByteOrder.{first_sorted}
+use Rattle.mf_parties.proofs.FirstNames.{first_sorted}
 use Rattle.mf_parties.proofs.parties.listing.are_first.Goals as goal
 
 pub returns : goal.returns
