@@ -24,6 +24,7 @@ mod streams;
 mod sysctls;
 mod tasks;
 mod transcript;
+mod transfers;
 mod watermark;
 
 use mf_biba::Biba;

@@ -46,6 +46,13 @@ const RUNS: &[Case] = &[
         ..PLAIN
     },
     Case {
+        name: "the text of a run is judged",
+        words: &["check"],
+        script: "script 45\nboot mac_biba\ntask t uid 0 gid 0 label -\nend\nboot mac_biba 0\nsource biba vnode:/ high\nsource biba proc:t high\n",
+        text: "yes\n",
+        ..PLAIN
+    },
+    Case {
         name: "an empty task",
         script: "boot mac_biba\ntask t uid 0 gid 0 label -\nend\n",
         text: "boot mac_biba 0\nsource biba vnode:/ high\nsource biba proc:t high\n",
@@ -159,6 +166,21 @@ const REFUSALS: &[Case] = &[
         script: "boot mac_biba\ntask t uid 0 gid 0 label biba/65536\nend\n",
         status: 3,
         text: "macsim: script line 2 fault 6 BadLabel\n",
+        ..PLAIN
+    },
+    Case {
+        name: "a text that is of no run: a source of the task is lacking",
+        words: &["check"],
+        script: "script 45\nboot mac_biba\ntask t uid 0 gid 0 label -\nend\nboot mac_biba 0\nsource biba vnode:/ high\n",
+        status: 8,
+        text: "no 3\n",
+        ..PLAIN
+    },
+    Case {
+        name: "a text to be judged without its script",
+        words: &["check"],
+        status: 10,
+        text: "macsim: check header\n",
         ..PLAIN
     },
     Case {

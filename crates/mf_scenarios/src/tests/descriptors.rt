@@ -121,94 +121,6 @@ end
 ";
 
 /// Which transfers count, of a process of `biba/5` and a file of `biba/9` or `biba/3`.
-const COUNTED: &str = "none counts after the process got another element
-boot mac_biba
-file /f reg uid 0 gid 0 mode 644 label biba/9 text hi
-task t uid 0 gid 0 label biba/5
-= boot mac_biba 0
-open /f r -> ok fd 0
-setpmac biba/6 -> ok
-fread 0 -> ok bytes 2 =hi
-end
-= source biba vnode:/ high
-= source biba vnode:/f 9
-= source biba proc:t 6
-
-one counts once the element is back
-boot mac_biba
-file /f reg uid 0 gid 0 mode 644 label biba/9 text hi
-task t uid 0 gid 0 label biba/5
-= boot mac_biba 0
-open /f r -> ok fd 0
-setpmac biba/6 -> ok
-fread 0 -> ok bytes 2 =hi
-setpmac biba/5 -> ok
-fread 0 -> ok bytes 2 =hi
-end
-= source biba vnode:/ high
-= source biba vnode:/f 9
-= source biba proc:t 5,9
-
-the same element, and a range alone, are no other element
-boot mac_biba
-file /f reg uid 0 gid 0 mode 644 label biba/3 text hi
-task t uid 0 gid 0 label biba/5
-= boot mac_biba 0
-open /f w -> ok fd 0
-setfmac biba/3 /f -> ok
-setpmac biba/(1-9) -> ok
-fwrite 0 x -> ok
-end
-= source biba vnode:/ high
-= source biba vnode:/f 3,5,high
-= source biba proc:t 5,high
-
-none counts after the file got another element
-boot mac_biba
-file /f reg uid 0 gid 0 mode 644 label biba/3 text hi
-task t uid 0 gid 0 label biba/5
-= boot mac_biba 0
-open /f w -> ok fd 0
-setfmac biba/2 /f -> ok
-fwrite 0 x -> ok
-end
-= source biba vnode:/ high
-= source biba vnode:/f 2
-= source biba proc:t 5,high
-
-with revocation each counts that is allowed
-boot mac_biba
-tunable security.mac.biba.revocation_enabled=1
-file /f reg uid 0 gid 0 mode 644 label biba/3 text hi
-task t uid 0 gid 0 label biba/5
-= boot mac_biba 0
-open /f w -> ok fd 0
-setfmac biba/2 /f -> ok
-fwrite 0 x -> ok
-end
-= source biba vnode:/ high
-= source biba vnode:/f 2,5,high
-= source biba proc:t 5,high
-
-for mac_mls each counts, also where it doesn't for mac_biba
-boot mac_biba
-boot mac_mls
-file /f reg uid 0 gid 0 mode 644 label biba/9,mls/3 text hi
-task t uid 0 gid 0 label biba/5,mls/5
-= boot mac_biba 0
-= boot mac_mls 1
-open /f r -> ok fd 0
-setfmac biba/2,mls/4 /f -> ok
-fread 0 -> ok bytes 2 =hi
-end
-= source biba vnode:/ high
-= source biba vnode:/f 2
-= source biba proc:t 5,9,high
-= source mls vnode:/ low
-= source mls vnode:/f 4
-= source mls proc:t low,3,4,5
-";
-
 const NUMBERS: &str = "sixteen, and all go with their file
 boot mac_biba
 file /f reg uid 0 gid 0 mode 644 label biba/high text hi
@@ -356,11 +268,6 @@ end
 #[test]
 fn relabels_and_open_files(rt: HostRuntime) -> Result<(), AllocError> {
     run_scenarios(&rt, rt.alloc(), "run", RELABELLED)
-}
-
-#[test]
-fn transfers_that_count(rt: HostRuntime) -> Result<(), AllocError> {
-    run_scenarios(&rt, rt.alloc(), "run", COUNTED)
 }
 
 #[test]

@@ -1,21 +1,22 @@
 //! As much of each kind as there may be, and then more.
 
 use crate::tests::transcript::Transcript;
-use crate::tests::wants_that;
+use crate::tests::{run_with, source_of, wants_that};
+use mf_io::{MemSink, MemSource, OpenGate};
 use std::alloc::{AllocError, Global};
 use std::process::Abort;
 use std::sync::Wait;
 use std::thread::Threads;
 
 /// Lines of one kind, and those behind them. Where `#` stands in the line or its reply, the line's number comes.
-struct Fill {
-    line: &'static str,
+pub struct Fill {
+    pub line: &'static str,
     /// How many letters each line ends with besides.
-    letters: u32,
-    reply: &'static str,
-    from: u32,
-    to: u32,
-    behind: &'static str,
+    pub letters: u32,
+    pub reply: &'static str,
+    pub from: u32,
+    pub to: u32,
+    pub behind: &'static str,
 }
 
 /// Of a file, a pipe and a socket.
@@ -129,7 +130,7 @@ fn add_fills(
 }
 
 /// Whether the lines are answered so.
-fn are_answered<R: Abort + Threads + Wait + Sync>(
+pub fn are_answered<R: Abort + Threads + Wait + Sync>(
     rt: &R,
     alloc: Global,
     front: &str,
@@ -172,4 +173,45 @@ fn a_full_rule_list(rt: HostRuntime) -> Result<(), AllocError> {
     let holds = are_answered(&rt, rt.alloc(), WITH_RULES, RULES)?;
     wants_that(&rt, "a full rule list", holds);
     Ok(())
+}
+
+/// A task that learns what the root has, under three policies, and its child.
+const MAKERS: &str = "boot mac_biba
+boot mac_mls
+boot mac_lomac
+task t uid 0 gid 0 label biba/low,mls/high,lomac/low
+stat /
+fork c1
+";
+
+/// The script of 900 processes in a row, each made by the one before: a chain that leads to the last has 900 steps.
+fn row_of_processes(alloc: Global) -> Result<String, AllocError> {
+    let mut script = String::from_str(alloc, MAKERS)?;
+    let mut maker: u32 = 1;
+    for child in 2..=900 {
+        write!(script, "@c{maker} fork c{child}\n")?;
+        maker = child;
+    }
+    script.push_str("end\n")?;
+    Ok(script)
+}
+
+/// Wants the script that the source gives to have too many chains.
+fn wants_too_many_chains<R: Abort + Threads + Wait + Sync>(
+    rt: &R,
+    alloc: Global,
+    source: &mut MemSource,
+) -> Result<(), AllocError> {
+    let sink = &mut MemSink::new(alloc, 200_000, 1_000, Vec::new(alloc))?;
+    let status = run_with(rt, alloc, &["chains"], source, sink, &OpenGate)?;
+    let is_told = sink.taken().ends_with(b"high\nmacsim: too many chains\n");
+    wants_that(rt, "too many chains", status == 11 && is_told);
+    Ok(())
+}
+
+#[test]
+fn too_many_chains(rt: HostRuntime) -> Result<(), AllocError> {
+    let script = row_of_processes(rt.alloc())?;
+    let mut source = source_of(rt.alloc(), script.as_str(), 1_000, &[])?;
+    wants_too_many_chains(&rt, rt.alloc(), &mut source)
 }
