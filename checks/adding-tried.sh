@@ -19,8 +19,8 @@ boot mac_ninth
 boot mac_biba
 task t uid 0 gid 47 label biba/high(low-high)
 socket s
-glance s
-glance nothing
+glimpse s
+glimpse nothing
 priv SCHED_RTPRIO
 kldstat
 kldunload mac_ninth
@@ -29,7 +29,7 @@ kldload mac_ninth
 end
 SCRIPT
 with_old_names() {
-  sed 's/mac_ninth/mac_priority/; s/glance/seesock/'
+  sed 's/mac_ninth/mac_priority/; s/glimpse/seesock/'
 }
 "$folder/program" run <"$folder/script" | with_old_names >"$folder/new" || exit 1
 with_old_names <"$folder/script" | "$folder/program" run >"$folder/old" || exit 1

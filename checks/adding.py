@@ -25,6 +25,7 @@ BY_READING = {
     "A module and its policy": {
         *("mf_policy src/operations", "mf_policy src/spec", "mf_policy specs/Operations", "mf_policy specs/Modules", "mf_policy specs/Answer"),
         *("mf_policy specs/Settings", "mf_calls proofs/FewBoots", "mf_flow proofs/Answering", "mf_top proofs/Modules"),
+        "mf_answers src/reasons",
     },
     "A call": {"mf_plan proofs/ask_on_pipe", "mf_plan proofs/ask_on_socket"},
     "A word of the program": {"mf_top proofs/top/macsim/Answers"},

@@ -6,9 +6,9 @@ from pathlib import Path
 
 from adding import section_of, table_of
 
-# Whose rows are copied, and what is added in their place.
+# Whose rows are copied, and what is added in their place. The names of the two calls are of one length, by which the rows of mf_script stand.
 MODULE, NEW_MODULE = "Priority", "Ninth"
-CALL, NEW_CALL = "Seesock", "Glance"
+CALL, NEW_CALL = "Seesock", "Glimpse"
 
 
 class Adding:
