@@ -1,13 +1,11 @@
 -- Which rule decides a verdict.
-use Rattle.std.proofs.Common.{◌≡◌, ℕ, zero, suc, ◌<◌, ◌≤◌, Bool, true, false, not, ◌&&◌, ◌||◌, cond, List, [], ◌∷◌, ◌++◌, Option, Some, None, find, length, take, get_or, refl, sym, ap, subst, ◌∙◌, arith}
-use Rattle.std.specs.Prelude.{nat_lt, position, option_and_then}
+use Rattle.std.proofs.Common.{◌≡◌, ℕ, zero, suc, ◌<◌, ◌≤◌, Bool, true, false, not, ◌&&◌, ◌||◌, cond, [], ◌∷◌, ◌++◌, Option, Some, None, find, length, take, get_or, refl, sym, ap, subst, ◌∙◌, arith}
+use Rattle.std.specs.Prelude.{nat_lt, option_and_then}
 use Rattle.std.specs.List.{list_all, position_or_len}
-use Rattle.std.specs.Option.{option_map_or}
 use Rattle.std.specs.Int.RustNames.{bit_and}
 use Rattle.std.proofs.lemmas.Bool.{eq-eqb, ltb-true, ltb-false}
 use Rattle.std.proofs.lemmas.List.Sums.{fails_before_first, passes_at_first}
-use Rattle.mf_errno.specs.declared.errno.Errno.{Errno}
-use Rattle.mf_errno.specs.declared.errno.Errno.TheVariants.{Success, Eacces}
+use Rattle.mf_errno.specs.declared.errno.Errno.TheVariants.{Eacces}
 use Rattle.mf_cred.specs.declared.cred.Cred.{Cred}
 use Rattle.mf_cred.specs.declared.cred.FileView.{FileView}
 use Rattle.mf_rule.specs.RuleList.{Slots, is_match, slot_gives, verdict}
@@ -16,7 +14,7 @@ use Rattle.mf_policy.specs.Answer.{errno_unless}
 use Rattle.mf_answers.specs.declared.reasons.Reason.{Reason}
 use Rattle.mf_answers.specs.declared.reasons.Reason.TheVariants as why
 use Rattle.mf_answers.specs.Laws.{RuleDecides, with_letters}
-use Rattle.mf_answers.specs.Reasons.{deciding, errno_by, errno_of, reason_unless, slot_reason, verdict_reason}
+use Rattle.mf_answers.specs.Reasons.{errno_by, errno_of, reason_unless, slot_reason, verdict_reason}
 
 pub unless : (holds : Bool) (r : Reason) → errno_unless holds (errno_of r) ≡ errno_by (reason_unless holds r)
 unless true r = refl
@@ -149,14 +147,27 @@ abbrev told_number : Option Reason → ℕ
 told_number (Some (why.Rule number wanted gives)) = number
 told_number other = 0
 
+abbrev told_wanted : Option Reason → ℕ
+told_wanted (Some (why.Rule number wanted gives)) = wanted
+told_wanted other = 0
+
+abbrev told_given : Option Reason → ℕ
+told_given (Some (why.Rule number wanted gives)) = gives
+told_given other = 0
+
 module _ (cred : Cred) (file : FileView) (asked : ℕ) where
-  told : (slot : Option Rule) (n number wanted gives : ℕ) → slot_reason slot n asked ≡ Some (why.Rule number wanted gives) → (n ≡ number) × (slot_gives asked slot ≡ false)
-  told None n number wanted gives h = cc
-  told (Some rule) n number wanted gives h = one (slot_gives asked (Some rule)) refl h
+  -- the number and the letters of the slot, which doesn't give what is asked
+  abbrev IsToldOf : Option Rule → ℕ → ℕ → ℕ → ℕ → Type 0
+  IsToldOf slot n number wanted given =
+      (n ≡ number) × (slot_gives asked slot ≡ false) × (wanted ≡ asked) × ((rule : Rule) × (slot ≡ Some rule) × (rule.mode ≡ given))
+
+  told : (slot : Option Rule) (n number wanted given : ℕ) → slot_reason slot n asked ≡ Some (why.Rule number wanted given) → IsToldOf slot n number wanted given
+  told None n number wanted given h = cc
+  told (Some rule) n number wanted given h = one (slot_gives asked (Some rule)) refl h
     where
-      one : (b : Bool) → slot_gives asked (Some rule) ≡ b → reason_unless b (why.Rule n asked rule.mode) ≡ Some (why.Rule number wanted gives) → (n ≡ number) × (slot_gives asked (Some rule) ≡ false)
+      one : (b : Bool) → slot_gives asked (Some rule) ≡ b → reason_unless b (why.Rule n asked rule.mode) ≡ Some (why.Rule number wanted given) → IsToldOf (Some rule) n number wanted given
       one true g h = cc
-      one false g h = (ap told_number h, g)
+      one false g h = (ap told_number h, g, sym (ap told_wanted h), (rule, refl, ap told_given h))
 
   -- with first match, and without, each with what the place of the rule is known to be
   of_first : (slots behind : Slots) (n : ℕ) → n < length slots → is_match cred file (get_or slots n None) ≡ true → slot_gives asked (get_or slots n None) ≡ false
@@ -185,33 +196,41 @@ module _ (cred : Cred) (file : FileView) (asked : ℕ) where
         (λ m k. as_passes cred file asked (get_or slots m None) false (least m k)),
   )
 
-  -- by the number that is told
-  abbrev Decides : Bool → Slots → Slots → ℕ → Type 0
-  Decides first slots behind n =
-      (verdict first (take (suc n) slots ++ behind) cred file asked ≡ false)
-      × ((rule : Rule) (letters : ℕ) → get_or slots n None ≡ Some rule → bit_and letters asked ≡ asked → verdict first (take n slots ++ Some (with_letters rule letters) ∷ []) cred file asked ≡ true)
+  -- what the rule of this slot decides, by what is told of it
+  abbrev Decides : Bool → Slots → Slots → ℕ → ℕ → ℕ → Type 0
+  Decides first slots behind wanted given n =
+      (wanted ≡ asked)
+      × (verdict first (take (suc n) slots ++ behind) cred file asked ≡ false)
+      × ((rule : Rule) × (get_or slots n None ≡ Some rule) × (rule.mode ≡ given)
+      × ((letters : ℕ) → bit_and letters asked ≡ asked → verdict first (take n slots ++ Some (with_letters rule letters) ∷ []) cred file asked ≡ true))
 
-  at_first : (slots behind : Slots) (n number wanted gives : ℕ) (b : Bool) → position_or_len (is_match cred file) slots ≡ n → nat_lt n (length slots) ≡ b
-      → option_and_then (λ k. slot_reason (get_or slots k None) k asked) (cond b (Some n) None) ≡ Some (why.Rule number wanted gives) → Decides true slots behind number
-  at_first slots behind n number wanted gives false at outside h = cc
-  at_first slots behind n number wanted gives true at inside h =
+  at_first : (slots behind : Slots) (n number wanted given : ℕ) (b : Bool) → position_or_len (is_match cred file) slots ≡ n → nat_lt n (length slots) ≡ b
+      → option_and_then (λ k. slot_reason (get_or slots k None) k asked) (cond b (Some n) None) ≡ Some (why.Rule number wanted given) → Decides true slots behind wanted given number
+  at_first slots behind n number wanted given false at outside h = cc
+  at_first slots behind n number wanted given true at inside h =
       let within : n < length slots = ltb-true n (length slots) inside in
-      let is = told (get_or slots n None) n number wanted gives h in
-      subst (Decides true slots behind) is.0
-      (of_first slots behind n within
+      let is : IsToldOf (get_or slots n None) n number wanted given = told (get_or slots n None) n number wanted given h in
+      let decided =
+      of_first slots behind n within
       (ap (λ k. is_match cred file (get_or slots k None)) (sym at) ∙ passes_at_first (is_match cred file) slots None (grind (arith, at, within))) is.1
-      (λ m k. fails_before_first (is_match cred file) slots m None (grind (arith, at, k))))
+      (λ m k. fails_before_first (is_match cred file) slots m None (grind (arith, at, k))) in
+      let rule = is.3 in
+      subst (Decides true slots behind wanted given) is.0
+      (is.2, decided.0, (rule.0, rule.1, rule.2, λ letters enough. decided.1 rule.0 letters rule.1 enough))
 
-  at_all : (slots behind : Slots) (n number wanted gives : ℕ) (b : Bool) → position_or_len (lacks cred file asked) slots ≡ n → nat_lt n (length slots) ≡ b
-      → option_and_then (λ k. slot_reason (get_or slots k None) k asked) (cond b (Some n) None) ≡ Some (why.Rule number wanted gives) → Decides false slots behind number
-  at_all slots behind n number wanted gives false at outside h = cc
-  at_all slots behind n number wanted gives true at inside h =
+  at_all : (slots behind : Slots) (n number wanted given : ℕ) (b : Bool) → position_or_len (lacks cred file asked) slots ≡ n → nat_lt n (length slots) ≡ b
+      → option_and_then (λ k. slot_reason (get_or slots k None) k asked) (cond b (Some n) None) ≡ Some (why.Rule number wanted given) → Decides false slots behind wanted given number
+  at_all slots behind n number wanted given false at outside h = cc
+  at_all slots behind n number wanted given true at inside h =
       let within : n < length slots = ltb-true n (length slots) inside in
-      let is = told (get_or slots n None) n number wanted gives h in
-      subst (Decides false slots behind) is.0
-      (of_all slots behind n within
+      let is : IsToldOf (get_or slots n None) n number wanted given = told (get_or slots n None) n number wanted given h in
+      let decided =
+      of_all slots behind n within
       (ap (λ k. lacks cred file asked (get_or slots k None)) (sym at) ∙ passes_at_first (lacks cred file asked) slots None (grind (arith, at, within)))
-      (λ m k. fails_before_first (lacks cred file asked) slots m None (grind (arith, at, k))))
+      (λ m k. fails_before_first (lacks cred file asked) slots m None (grind (arith, at, k))) in
+      let rule = is.3 in
+      subst (Decides false slots behind wanted given) is.0
+      (is.2, decided.0, (rule.0, rule.1, rule.2, λ letters enough. decided.1 rule.0 letters rule.1 enough))
 
 pub decides : RuleDecides
 decides true slots behind cred file asked wanted number gives h = at_first cred file asked slots behind _ number wanted gives _ refl refl h

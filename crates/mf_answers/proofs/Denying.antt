@@ -1,10 +1,9 @@
 -- That there is no reason for success.
-use Rattle.std.proofs.Common.{◌≡◌, ℕ, Bool, true, false, not, ◌&&◌, ◌||◌, ◌==◌, cond, Option, Some, None, is_some, refl, sym, ap, ◌∙◌}
+use Rattle.std.proofs.Common.{◌≡◌, ℕ, Bool, true, false, not, ◌&&◌, ◌||◌, ◌==◌, Option, Some, None, is_some, refl, sym, ap, ◌∙◌}
 use Rattle.std.specs.Prelude.{if◌then◌else◌, is_none, option_and_then, slice_index_or}
 use Rattle.std.specs.Option.{option_map_or, option_or}
 use Rattle.std.proofs.lemmas.Bool.{not-true}
-use Rattle.mf_errno.specs.declared.errno.Errno.{Errno}
-use Rattle.mf_errno.specs.declared.errno.Errno.TheVariants.{Success, Esrch, Eacces, Eperm, Einval}
+use Rattle.mf_errno.specs.declared.errno.Errno.TheVariants.{Success, Esrch}
 use Rattle.mf_errno.specs.Same.{is_same}
 use Rattle.mf_elem.specs.declared.elem.Elem.{Elem}
 use Rattle.mf_elem.specs.declared.label.RangeLabel.{RangeLabel}
@@ -23,7 +22,7 @@ use Rattle.mf_policy.specs.declared.operations.Test.{Test}
 use Rattle.mf_policy.specs.declared.operations.Test.TheVariants as test
 use Rattle.mf_policy.specs.declared.operations.PartitionTest.{PartitionTest}
 use Rattle.mf_policy.specs.declared.operations.PartitionTest.TheVariants.{Agree, Join, Ignore}
-use Rattle.mf_policy.specs.Answer.{LatticePolicy, answer, attributes_of}
+use Rattle.mf_policy.specs.Answer.{LatticePolicy, attributes_of}
 use Rattle.mf_policy.specs.Operations.{is_transfer, row_of}
 use Rattle.mf_policy.specs.Ports.{is_on_process, may_bind, may_see}
 use Rattle.mf_policy.specs.Relabel.{is_outside, reaches_out}
@@ -33,7 +32,7 @@ use Rattle.mf_answers.specs.declared.reasons.Reason.{Reason}
 use Rattle.mf_answers.specs.declared.reasons.Reason.TheVariants as why
 use Rattle.mf_answers.specs.Laws.{ReasonsDeny}
 use Rattle.mf_answers.specs.Orders.{policy_of}
-use Rattle.mf_answers.specs.Reasons.{assign_reason, binding_reason, credential_reason, deciding, element_reason, errno_by, errno_of, give_reason, guard_reason, labels_reason, lattice_reason, modify_reason, object_reason, observe_reason, own_reason, partitions_reason, reason, reason_unless, relabel_reason, rules_reason, slot_reason, verdict_reason}
+use Rattle.mf_answers.specs.Reasons.{assign_reason, binding_reason, credential_reason, deciding, element_reason, errno_by, errno_of, give_reason, guard_reason, labels_reason, lattice_reason, modify_reason, object_reason, own_reason, partitions_reason, reason, reason_unless, relabel_reason, rules_reason, slot_reason, verdict_reason}
 use Rattle.mf_answers.proofs.Errnos.{by_reason}
 
 -- there is none exactly where its error is success

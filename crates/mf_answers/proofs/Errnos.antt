@@ -1,8 +1,7 @@
 -- That the error of a reason is what the policy answers.
-use Rattle.std.proofs.Common.{◌≡◌, ℕ, Bool, true, false, not, ◌&&◌, ◌||◌, ◌==◌, cond, Option, Some, None, is_some, refl}
+use Rattle.std.proofs.Common.{◌≡◌, ℕ, Bool, true, false, not, ◌&&◌, ◌||◌, ◌==◌, Option, Some, None, is_some, refl}
 use Rattle.std.specs.Prelude.{if◌then◌else◌, option_and_then}
 use Rattle.std.specs.Option.{option_map_or, option_or}
-use Rattle.mf_errno.specs.declared.errno.Errno.{Errno}
 use Rattle.mf_errno.specs.declared.errno.Errno.TheVariants.{Success, Esrch, Eacces, Eperm, Einval}
 use Rattle.mf_elem.specs.declared.elem.Elem.{Elem}
 use Rattle.mf_elem.specs.declared.label.RangeLabel.{RangeLabel}
@@ -19,17 +18,16 @@ use Rattle.mf_policy.specs.declared.operations.Test.{Test}
 use Rattle.mf_policy.specs.declared.operations.Test.TheVariants as test
 use Rattle.mf_policy.specs.declared.operations.PartitionTest.{PartitionTest}
 use Rattle.mf_policy.specs.declared.operations.PartitionTest.TheVariants.{Agree, Join, Ignore}
-use Rattle.mf_policy.specs.Answer.{LatticePolicy, answer, attributes_of, biba, element_answer, errno_unless, labels_answer, lattice_answer, lomac, may_assign, mls, object_slot, part_of, partition_verdict, range_label, rules_answer}
+use Rattle.mf_policy.specs.Answer.{LatticePolicy, answer, attributes_of, biba, element_answer, errno_unless, labels_answer, lattice_answer, may_assign, partition_verdict, rules_answer}
 use Rattle.mf_policy.specs.Operations.{is_transfer, row_of}
 use Rattle.mf_policy.specs.Ports.{binding_answer, is_on_process, may_bind, may_see}
 use Rattle.mf_policy.specs.Relabel.{credential_relabel, is_outside, object_relabel, reaches_out}
 use Rattle.mf_rule.specs.RuleList.{verdict}
 use Rattle.mf_answers.specs.declared.order.Order.{Order}
 use Rattle.mf_answers.specs.declared.order.Order.TheVariants.{Biba, Mls, Lomac}
-use Rattle.mf_answers.specs.declared.reasons.Reason.{Reason}
 use Rattle.mf_answers.specs.declared.reasons.Reason.TheVariants as why
 use Rattle.mf_answers.specs.Orders.{policy_of}
-use Rattle.mf_answers.specs.Reasons.{assign_reason, binding_reason, credential_reason, element_reason, errno_by, errno_of, give_reason, guard_reason, labels_reason, lattice_reason, modify_reason, object_reason, own_reason, partitions_reason, reason, reason_unless, relabel_reason, rules_reason, verdict_reason}
+use Rattle.mf_answers.specs.Reasons.{assign_reason, binding_reason, credential_reason, element_reason, errno_by, give_reason, guard_reason, labels_reason, lattice_reason, modify_reason, object_reason, own_reason, partitions_reason, reason, reason_unless, relabel_reason, rules_reason, verdict_reason}
 use Rattle.mf_answers.proofs.Deciding.{by_verdict, unless}
 
 elements : (policy : LatticePolicy) (t : Test) (s o : Elem) → element_answer t (policy.may_observe s o) (policy.may_modify s o) (same_level s o) ≡ errno_by (element_reason policy t s o)

@@ -1,5 +1,5 @@
 -- Places in a list.
-use Rattle.std.proofs.Common.{◌≡◌, ℕ, Bool, true, false, cond, suc, ◌+◌, ltb, List, [], ◌∷◌, length, Option, Some, None, is_some, refl, arith, ◌∙◌}
+use Rattle.std.proofs.Common.{◌≡◌, ℕ, Bool, true, false, cond, suc, ◌+◌, ltb, List, [], ◌∷◌, length, Some, None, is_some, refl, arith, ◌∙◌}
 use Rattle.std.specs.List.{list_any, position, position_or_len}
 use Rattle.std.proofs.lemmas.Bool.{le-ltb, lt-ltb, ltb-false, ltb-true}
 

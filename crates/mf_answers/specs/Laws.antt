@@ -25,12 +25,14 @@ ReasonsDeny = (spec : Spec) (slot : ℕ) (item : Item) → is_none (reason spec 
 abbrev pub with_letters : Rule → ℕ → Rule
 with_letters rule letters = record rule { mode = letters }
 
--- The rule that is told decides: whatever stands behind it, the rules up to it deny; and they allow where it has letters that hold what is
--- wanted.
+-- The rule that is told stands in the slot of its number with the letters that are told, and decides what is asked: whatever stands behind it,
+-- the rules up to it deny; and they allow where it has letters that hold what is asked.
 abbrev pub RuleDecides : Type 0
 RuleDecides =
     (first : Bool) (slots behind : Slots) (cred : Cred) (file : FileView) (asked wanted number given : ℕ)
     → verdict_reason first slots cred file asked ≡ Some (why.Rule number wanted given)
-    → (verdict first (take (suc number) slots ++ behind) cred file asked ≡ false)
-    × ((rule : Rule) (letters : ℕ) → slice_index_or slots number None ≡ Some rule → bit_and letters asked ≡ asked
-    → verdict first (take number slots ++ Some (with_letters rule letters) ∷ []) cred file asked ≡ true)
+    → (wanted ≡ asked)
+    × (verdict first (take (suc number) slots ++ behind) cred file asked ≡ false)
+    × ((rule : Rule) × (slice_index_or slots number None ≡ Some rule) × (rule.mode ≡ given)
+    × ((letters : ℕ) → bit_and letters asked ≡ asked
+    → verdict first (take number slots ++ Some (with_letters rule letters) ∷ []) cred file asked ≡ true))

@@ -173,6 +173,12 @@ abbrev pub verdict_reason : Bool → Slots → Cred → FileView → ℕ → Opt
 verdict_reason first slots cred file wanted =
     option_and_then (λ number. slot_reason (slice_index_or slots number None) number wanted) (deciding first slots cred file wanted)
 
+-- of the rule with the number by itself, where it matches
+abbrev pub rule_reason : Slots → ℕ → Item → Option Reason
+rule_reason slots number item =
+    let slot = slice_index_or slots number None in
+    if is_match item.subject.cred (attributes_of item.object) slot then option_and_then (slot_reason slot number) (row_of item.op).letters else None
+
 abbrev pub rules_reason : Slots → Bool → Item → Option Reason
 rules_reason rules first item =
     option_and_then (λ letters. verdict_reason first rules item.subject.cred (attributes_of item.object) letters) (row_of item.op).letters

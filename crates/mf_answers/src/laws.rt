@@ -11,8 +11,8 @@ pub fn reasons_deny()
     ensures { ReasonsDeny }
 {}
 
-/// The rule that is told decides: whatever stands behind it, the rules up to it deny; and with the letters that are wanted in place
-/// of its own they allow.
+/// The rule that is told stands where it is said to, with the letters that are said, and decides: whatever stands behind it, the rules
+/// up to it deny; and with the letters that are wanted in place of its own they allow.
 pub fn rule_decides()
     ensures { RuleDecides }
 {}

@@ -84,7 +84,8 @@ pub enum Reason {
         asked: u32,
         uid: u32,
     },
-    /// By mac_bsdextended(4) the rule of this number decides, which gives some letters, and not all that are wanted.
+    /// By mac_bsdextended(4) a rule that matches doesn't give all the letters that are wanted: with first match the first that matches,
+    /// and without the first that lacks one.
     Rule {
         number: u32,
         wanted: u8,

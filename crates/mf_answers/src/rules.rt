@@ -1,9 +1,11 @@
-//! Why the rules about files of mac_bsdextended(4) deny: which of them decides. Each rule is looked at in turn.
-ghost use Rattle.std.specs.Prelude.{◌≡◌, ◌≤◌, ◌&&◌, not, length, position};
+//! Why the rules about files of mac_bsdextended(4) deny or allow: which of them decides. Each rule is looked at in turn.
+ghost use Rattle.std.specs.Prelude.{◌≡◌, ◌≤◌, ◌<◌, ◌&&◌, not, length, position};
 ghost use Rattle.mf_rule.specs.RuleList.{is_match, slot_gives};
+ghost use Rattle.mf_answers.specs.Permits as permits;
 ghost use Rattle.mf_answers.specs.Reasons as spec;
 
 use crate::columns::letters_of;
+use crate::permits::Permit;
 use crate::reasons::Reason;
 use crate::views::attributes_of;
 use mf_cred::{Cred, FileView};
@@ -21,6 +23,60 @@ pub fn rules_reason(rules: &[Option<Rule>], first_match: bool, item: &Item) -> O
             let file = attributes_of(item.object());
             verdict_reason(rules, first_match, &item.subject().cred, &file, letters)
         }
+    }
+}
+
+/// Why the rule of a number denies an item by itself: it matches, and lacks a letter.
+pub fn rule_reason(rules: &[Option<Rule>], number: u32, item: &Item) -> Option<Reason>
+    requires { number < length rules.now }
+    ensures { result ≡ spec.rule_reason rules.now number item.now }
+{
+    let wanted = letters_of(item.op())?;
+    let slot = &rules[number as usize];
+    let file = attributes_of(item.object());
+    if is_match(slot, &item.subject().cred, &file) {
+        slot_reason(slot, number, wanted)
+    } else {
+        None
+    }
+}
+
+/// The rule that allows an item with first match: that which decides, where it gives all of the letters.
+pub fn rules_permit(rules: &[Option<Rule>], item: &Item) -> Option<Permit>
+    requires { length rules.now ≤ MAX_RULES }
+    ensures { result ≡ permits.rules_permit rules.now item.now }
+{
+    match letters_of(item.op()) {
+        None => None,
+        Some(letters) => {
+            let file = attributes_of(item.object());
+            first_permit(rules, &item.subject().cred, &file, letters)
+        }
+    }
+}
+
+/// The first rule that matches, where it gives the subject all of the letters for the file.
+fn first_permit(rules: &[Option<Rule>], cred: &Cred, file: &FileView, wanted: u8) -> Option<Permit>
+    requires { length rules.now ≤ MAX_RULES }
+    ensures { result ≡ permits.first_permit rules.now cred.now file.now wanted }
+{
+    match deciding(rules, true, cred, file, wanted) {
+        None => None,
+        Some(number) => slot_permit(&rules[number], number as u32, wanted),
+    }
+}
+
+/// The rule with that number, where it gives the letters.
+fn slot_permit(slot: &Option<Rule>, number: u32, wanted: u8) -> Option<Permit>
+    ensures { result ≡ permits.slot_permit slot.now number wanted }
+{
+    match slot {
+        Some(rule) if rule.gives(wanted) => Some(Permit::Rule {
+            number,
+            wanted,
+            given: rule.mode,
+        }),
+        Some(_) | None => None,
     }
 }
 
