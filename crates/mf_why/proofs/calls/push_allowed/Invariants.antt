@@ -1,0 +1,6 @@
+use Rattle.std.proofs.Common.{◌≡◌, ◌++◌, take, string_bytes}
+use Rattle.mf_why.specs.Lines.{each_check, permits_text}
+use Rattle.mf_why.proofs.calls.push_allowed.Given as goal
+
+abbrev pub invariant-loop-check : goal.invariant-loop-check
+invariant-loop-check l = string_bytes l.text ≡ string_bytes l.fn.text ++ each_check (permits_text l.listed l.place) 1 (take l.check l.plan.items)
