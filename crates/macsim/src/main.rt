@@ -1,16 +1,20 @@
 //! Runs the script on the standard input, by threads or by its steps, or a generated load, and prints the history and its
-//! sources, the matrix or the chains behind them where these are asked for, or the summary, on the standard output; or tells
-//! whether what is there is a script and the text of a run of it.
+//! sources, and the matrix, the chains or why calls were denied behind them where these are asked for, or the summary, on the
+//! standard output; or tells whether what is there is a script and the text of a run of it.
 #![tactic(auto)]
 
 ghost use Rattle.std.specs.Prelude.{◌≡◌, ◌++◌, ◌∷◌, [], List, ℕ, map, Some, Result, IfOk, OnErr, string_bytes};
 ghost use Rattle.mf_io.specs.Outside.{seen};
 ghost use Rattle.mf_top.specs.declared.refusal.Refusal.{Refusal};
 ghost use Rattle.mf_top.specs.declared.command.Command.TheVariants as command;
+ghost use Rattle.mf_top.specs.declared.command.Order.{Order};
+ghost use Rattle.mf_top.specs.declared.command.Order.TheVariants as order;
+ghost use Rattle.mf_top.specs.declared.command.Telling.{Telling};
+ghost use Rattle.mf_top.specs.declared.command.Telling.TheVariants as telling;
 ghost use Rattle.mf_top.specs.Commands.{command_of};
-ghost use Rattle.mf_top.specs.Answers.{WroteHistory, WroteMatrix, WroteChains, WroteTooMany, WroteSummary, IsOutcome, IsWritten, IsDone, IsFaultless};
+ghost use Rattle.mf_top.specs.Answers.{WroteHistory, WroteSummary, IsOutcome, IsWritten, IsDone, IsFaultless};
 ghost use Rattle.mf_top.specs.Check.{WroteYes};
-ghost use Rattle.mf_top.specs.Steps.{WroteSteps};
+ghost use Rattle.mf_top.specs.Tellings.{WroteTold, WroteTooMany};
 
 use mf_biba::Biba;
 use mf_bsdextended::Bsdextended;
@@ -80,24 +84,17 @@ fn run<S: Source, K: Sink, R: Threads + Wait + Sync>(
     sink: &mut K,
 ) -> Result<u8, AllocError>
     ensures headline { IfOk result (λ status.
-        command_of (map string_bytes words.now) ≡ Some command.Run → status ≡ 0
+        command_of (map string_bytes words.now)
+        ≡ Some (command.Tell order.Threads telling.Sources) → status ≡ 0
         → WroteHistory (seen S.left S.faults source.old source.new)
         (seen K.taken K.faults sink.old sink.new)) }
-    ensures matrix { IfOk result (λ status.
-        command_of (map string_bytes words.now) ≡ Some command.Matrix → status ≡ 0
-        → WroteMatrix (seen S.left S.faults source.old source.new)
+    ensures told { IfOk result (λ status. (o : Order) (t : Telling)
+        → command_of (map string_bytes words.now) ≡ Some (command.Tell o t) → status ≡ 0
+        → WroteTold o t (seen S.left S.faults source.old source.new)
         (seen K.taken K.faults sink.old sink.new)) }
-    ensures chains { IfOk result (λ status.
-        command_of (map string_bytes words.now) ≡ Some command.Chains → status ≡ 0
-        → WroteChains (seen S.left S.faults source.old source.new)
-        (seen K.taken K.faults sink.old sink.new)) }
-    ensures too_many { IfOk result (λ status.
-        command_of (map string_bytes words.now) ≡ Some command.Chains → status ≡ 11
-        → WroteTooMany (seen S.left S.faults source.old source.new)
-        (seen K.taken K.faults sink.old sink.new)) }
-    ensures steps { IfOk result (λ status.
-        command_of (map string_bytes words.now) ≡ Some command.Step → status ≡ 0
-        → WroteSteps (seen S.left S.faults source.old source.new)
+    ensures too_many { IfOk result (λ status. (o : Order)
+        → command_of (map string_bytes words.now) ≡ Some (command.Tell o telling.Chains)
+        → status ≡ 11 → WroteTooMany o (seen S.left S.faults source.old source.new)
         (seen K.taken K.faults sink.old sink.new)) }
     ensures check { IfOk result (λ status.
         command_of (map string_bytes words.now) ≡ Some command.Check → status ≡ 0

@@ -1,5 +1,5 @@
 -- Where nothing fails and what is asked for can be done, it is done, or memory runs out.
-use Rattle.std.proofs.Common.{◌≡◌, ◌⊎◌, inl, inr, ℕ, ◌≤◌, List, [], length, Option, Some, None, Result, Ok, Err, refl, sym, ap, ◌∙◌, subst, arith}
+use Rattle.std.proofs.Common.{◌≡◌, ◌⊎◌, inl, inr, ℕ, ◌≤◌, List, [], length, Option, Some, None, Result, Ok, Err, string_bytes, refl, sym, ap, ◌∙◌, subst, arith}
 use Rattle.std.specs.Prelude.{IfSome, IsSomeAnd}
 use Rattle.mf_calls.specs.declared.script.Script.{Script}
 use Rattle.mf_script.specs.declared.error.ScriptError.{ScriptError}
@@ -16,13 +16,17 @@ use Rattle.mf_top.specs.declared.refusal.Refusal.{Refusal}
 use Rattle.mf_top.specs.declared.refusal.Refusal.TheVariants as refusal
 use Rattle.mf_top.specs.declared.command.Command.{Command}
 use Rattle.mf_top.specs.declared.command.Command.TheVariants as command
+use Rattle.mf_top.specs.declared.command.Order.{Order}
+use Rattle.mf_top.specs.declared.command.Order.TheVariants as order
+use Rattle.mf_top.specs.declared.command.Telling.{Telling}
+use Rattle.mf_top.specs.declared.command.Telling.TheVariants as telling
 use Rattle.mf_verdict.specs.Verdict.{FailsAt, IsAccepted}
 use Rattle.mf_verdict.specs.declared.limits.TheConstants.{CHECK_LIMIT}
 use Rattle.mf_verdict.proofs.Split.{one_split}
 use Rattle.mf_verdict.proofs.NotBoth.{accepted_never_fails}
-use Rattle.mf_top.specs.Answers.{CanBeDone, HoldsAccepted, HoldsScript, HoldsSteps, IsChainsOutcome, IsCheckOutcome, IsDone, IsOutcomeOf, IsSourceRefusal, IsStepOutcome, IsTooLong, IsWritten, status_of}
+use Rattle.mf_top.specs.Answers.{CanBeDone, HoldsAccepted, HoldsScript, HoldsSteps, IsCheckOutcome, IsDone, IsOutcomeOf, IsSourceRefusal, IsToldOutcome, IsTooLong, IsWritten, status_of}
 use Rattle.mf_top.specs.Check.{FailsAtLine, HasFault, HasNoHeader, HoldsRun, IsInput}
-use Rattle.mf_top.specs.Steps.{RefusesStep}
+use Rattle.mf_top.specs.Tellings.{IsTooMuchText, RefusesStep}
 use Rattle.mf_top.specs.Reading.{AreScript, Held}
 use Rattle.mf_top.proofs.Checked.{accepted_of_run}
 use Rattle.mf_top.proofs.Known.{known}
@@ -80,45 +84,55 @@ source_done source refusal.TooLong holds quiet cause =
 source_done source refusal.Memory holds quiet cause = inr refl
 source_done source (refusal.TooManyChains text) holds quiet cause = absurd cause
 
--- but for its chains
-
-or_too_many : (status : ℕ) → IsDoneOrNot status → IsDone (Some command.Chains) status
-or_too_many status (inl done) = inl done
-or_too_many status (inr lacks) = inr (inl lacks)
-
-chains_done : (source : Seen) (refused : Refusal) → HoldsScript source → ¬ FaultsRose source → IsChainsOutcome source (Err refused) → IsDone (Some command.Chains) (status_of (Err refused))
-chains_done source (refusal.TooManyChains text) holds quiet cause = inr (inr refl)
-chains_done source (refusal.Script line fault errno) holds quiet cause = or_too_many _ (source_done source (refusal.Script line fault errno) holds quiet cause)
-chains_done source refusal.TooLong holds quiet cause = or_too_many _ (source_done source refusal.TooLong holds quiet cause)
-chains_done source refusal.Memory holds quiet cause = inr (inl refl)
-chains_done source refusal.Usage holds quiet cause = absurd cause
-chains_done source (refusal.Step number) holds quiet cause = absurd cause
-chains_done source (refusal.Fails line) holds quiet cause = absurd cause
-chains_done source refusal.Header holds quiet cause = absurd cause
-chains_done source refusal.ReadFault holds quiet cause = absurd (quiet cause)
-
 -- and no step of one whose steps are all taken
 
-no_step_refused : (number : ℕ) (bytes : List ℕ) → (s : Script) × AreScript bytes s × AreAllTaken s → RefusesStep bytes number → ⊥
+steps_hold_script : (source : Seen) → HoldsSteps source → HoldsScript source
+steps_hold_script source holds = some_and source.before (λ bytes. (s : Script) × AreScript bytes s × AreAllTaken s) _ (λ bytes is. (is.0, is.1)) holds
+
+holds_script : (o : Order) (t : Telling) (source : Seen) → CanBeDone (Some (command.Tell o t)) source → HoldsScript source
+holds_script order.Threads t source can = can
+holds_script order.Steps t source can = steps_hold_script source can
+
+no_step_refused : (number : ℕ) (bytes : List ℕ) → (s : Script) × AreScript bytes s × AreAllTaken s → RefusesStep order.Steps bytes number → ⊥
 no_step_refused number bytes holds cause =
-    one_way.not_both holds.0 number holds.2 (subst (λ s. IsFirstRefused s number) (one_script bytes cause.0 holds.0 cause.1 holds.1) cause.2)
+    one_way.not_both holds.0 number holds.2 (subst (λ (s : Script). IsFirstRefused s number) (one_script bytes cause.0 holds.0 cause.1 holds.1) cause.2)
 
-step_done : (source : Seen) (refused : Refusal) → HoldsSteps source → ¬ FaultsRose source → IsStepOutcome source (Err refused) → IsDoneOrNot (status_of (Err refused))
-step_done source refused holds quiet cause = by_refusal refused cause
+none_refused : (o : Order) (t : Telling) (source : Seen) (number : ℕ) → CanBeDone (Some (command.Tell o t)) source → Held source (λ bytes. RefusesStep o bytes number) → ⊥
+none_refused order.Threads t source number can held = held.2.2
+none_refused order.Steps t source number can held = never_held source _ _ (no_step_refused number) can held
+
+-- only of chains is there too much to tell
+
+or_too_many : (o : Order) (t : Telling) (status : ℕ) → IsDoneOrNot status → IsDone (Some (command.Tell o t)) status
+or_too_many o telling.Sources status done = done
+or_too_many o telling.Matrix status done = done
+or_too_many o (telling.Why extent) status done = done
+or_too_many o telling.Chains status (inl done) = inl done
+or_too_many o telling.Chains status (inr lacks) = inr (inl lacks)
+
+too_much : (o : Order) (t : Telling) (source : Seen) (text : List ℕ) → Held source (λ bytes. IsTooMuchText o t bytes text) → IsDone (Some (command.Tell o t)) 11
+too_much o telling.Sources source text held = absurd held.2.2.2
+too_much o telling.Matrix source text held = absurd held.2.2.2
+too_much o (telling.Why extent) source text held = absurd held.2.2.2
+too_much o telling.Chains source text held = inr (inr refl)
+
+told_done : (o : Order) (t : Telling) (source : Seen) (refused : Refusal) → CanBeDone (Some (command.Tell o t)) source → ¬ FaultsRose source → IsToldOutcome o t source (Err refused)
+    → IsDone (Some (command.Tell o t)) (status_of (Err refused))
+told_done o t source refused can quiet cause = by_refusal refused cause
   where
-    script : HoldsScript source
-    script = some_and source.before (λ bytes. (s : Script) × AreScript bytes s × AreAllTaken s) _ (λ bytes is. (is.0, is.1)) holds
+    otherwise : (refused : Refusal) → IsSourceRefusal source refused → IsDone (Some (command.Tell o t)) (status_of (Err refused))
+    otherwise refused cause = or_too_many o t _ (source_done source refused (holds_script o t source can) quiet cause)
 
-    by_refusal : (refused : Refusal) → IsStepOutcome source (Err refused) → IsDoneOrNot (status_of (Err refused))
-    by_refusal (refusal.Step number) cause = absurd (never_held source _ _ (no_step_refused number) holds cause.1)
-    by_refusal refusal.Usage cause = absurd cause
-    by_refusal (refusal.Script line fault errno) cause = source_done source (refusal.Script line fault errno) script quiet cause
-    by_refusal (refusal.Fails line) cause = absurd cause
-    by_refusal refusal.Header cause = absurd cause
-    by_refusal refusal.ReadFault cause = source_done source refusal.ReadFault script quiet cause
-    by_refusal refusal.TooLong cause = source_done source refusal.TooLong script quiet cause
-    by_refusal refusal.Memory cause = inr refl
-    by_refusal (refusal.TooManyChains text) cause = absurd cause
+    by_refusal : (refused : Refusal) → IsToldOutcome o t source (Err refused) → IsDone (Some (command.Tell o t)) (status_of (Err refused))
+    by_refusal (refusal.Step number) cause = absurd (none_refused o t source number can cause.1)
+    by_refusal (refusal.TooManyChains text) cause = too_much o t source (string_bytes text) cause.1
+    by_refusal refusal.Usage cause = otherwise refusal.Usage cause
+    by_refusal (refusal.Script line fault errno) cause = otherwise (refusal.Script line fault errno) cause
+    by_refusal (refusal.Fails line) cause = otherwise (refusal.Fails line) cause
+    by_refusal refusal.Header cause = otherwise refusal.Header cause
+    by_refusal refusal.ReadFault cause = otherwise refusal.ReadFault cause
+    by_refusal refusal.TooLong cause = otherwise refusal.TooLong cause
+    by_refusal refusal.Memory cause = otherwise refusal.Memory cause
 
 -- nor the text of a run of it, where it is checked
 
@@ -155,14 +169,8 @@ check_done source (refusal.TooManyChains text) holds quiet cause = absurd cause.
 outcome_done : (asked : Option Command) (source : Seen) (outcome : Result (List ℕ) Refusal) → CanBeDone asked source → ¬ FaultsRose source → IsOutcomeOf asked source outcome
     → IsDone asked (status_of outcome)
 outcome_done None source outcome can quiet cause = absurd can
-outcome_done (Some command.Run) source (Ok text) can quiet cause = inl refl
-outcome_done (Some command.Run) source (Err refused) can quiet cause = source_done source refused can quiet cause
-outcome_done (Some command.Matrix) source (Ok text) can quiet cause = inl refl
-outcome_done (Some command.Matrix) source (Err refused) can quiet cause = source_done source refused can quiet cause
-outcome_done (Some command.Chains) source (Ok text) can quiet cause = inl refl
-outcome_done (Some command.Chains) source (Err refused) can quiet cause = chains_done source refused can quiet cause
-outcome_done (Some command.Step) source (Ok text) can quiet cause = inl refl
-outcome_done (Some command.Step) source (Err refused) can quiet cause = step_done source refused can quiet cause
+outcome_done (Some (command.Tell o t)) source (Ok text) can quiet cause = or_too_many o t 0 (inl refl)
+outcome_done (Some (command.Tell o t)) source (Err refused) can quiet cause = told_done o t source refused can quiet cause
 outcome_done (Some command.Check) source (Ok text) can quiet cause = inl refl
 outcome_done (Some command.Check) source (Err refused) can quiet cause = check_done source refused can quiet cause
 outcome_done (Some (command.Gen lines tasks)) source (Ok text) can quiet cause = inl refl

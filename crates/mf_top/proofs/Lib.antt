@@ -9,6 +9,5 @@ pub mod Passes
 pub mod Summed
 pub mod Slotted
 mod FromSource
-mod Stepped
 mod Told
 mod Wrote

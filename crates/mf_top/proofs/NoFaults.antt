@@ -37,10 +37,7 @@ no_usage outcome e f = cc
 
 fault_rose : (asked : Option Command) (source : Seen) → IsOutcomeOf asked source (Err refusal.ReadFault) → FaultsRose source
 fault_rose None source cause = absurd (no_usage (Err refusal.ReadFault) refl cause.0)
-fault_rose (Some command.Run) source cause = cause
-fault_rose (Some command.Matrix) source cause = cause
-fault_rose (Some command.Chains) source cause = cause
-fault_rose (Some command.Step) source cause = cause
+fault_rose (Some (command.Tell o t)) source cause = cause
 fault_rose (Some command.Check) source cause = cause
 fault_rose (Some (command.Gen lines tasks)) source cause = absurd cause.0
 

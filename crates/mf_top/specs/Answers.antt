@@ -12,6 +12,10 @@ use Rattle.mf_top.specs.declared.refusal.Refusal.{Refusal}
 use Rattle.mf_top.specs.declared.refusal.Refusal.TheVariants as refusal
 use Rattle.mf_top.specs.declared.command.Command.{Command}
 use Rattle.mf_top.specs.declared.command.Command.TheVariants as command
+use Rattle.mf_top.specs.declared.command.Order.{Order}
+use Rattle.mf_top.specs.declared.command.Order.TheVariants as order
+use Rattle.mf_top.specs.declared.command.Telling.{Telling}
+use Rattle.mf_top.specs.declared.command.Telling.TheVariants as telling
 use Rattle.mf_top.specs.Commands.{command_of}
 use Rattle.mf_io.specs.Outside.{Seen, FaultsRose, HadNoFault, Took, TookPart}
 use Rattle.mf_names.specs.declared.limits.TheConstants.{SCRIPT_LIMIT}
@@ -20,24 +24,12 @@ use Rattle.mf_steps.specs.StepText.{AreAllTaken}
 use Rattle.mf_verdict.specs.declared.limits.TheConstants.{CHECK_LIMIT}
 use Rattle.mf_top.specs.Check.{HoldsRun, IsVerdict}
 use Rattle.mf_top.specs.Reading.{Held, AreScript}
-use Rattle.mf_top.specs.Runs.{IsRunText, IsMatrixText, IsChainsText, IsTooManyText}
-use Rattle.mf_top.specs.Steps.{IsStepText, RefusesStep}
+use Rattle.mf_top.specs.Runs.{IsRunText}
+use Rattle.mf_top.specs.Tellings.{IsToldText, IsTooMuchText, RefusesStep}
 
 -- The source held a script to its end, and the sink took the text of one history that is legal and complete for it, and nothing else.
 abbrev pub WroteHistory : Seen → Seen → Type 0
 WroteHistory source sink = Held source (λ bytes. (text : List ℕ) × IsRunText bytes text × Took sink.before sink.after text)
-
--- So with the matrix behind it, and with the chains.
-abbrev pub WroteMatrix : Seen → Seen → Type 0
-WroteMatrix source sink = Held source (λ bytes. (text : List ℕ) × IsMatrixText bytes text × Took sink.before sink.after text)
-
-abbrev pub WroteChains : Seen → Seen → Type 0
-WroteChains source sink = Held source (λ bytes. (text : List ℕ) × IsChainsText bytes text × Took sink.before sink.after text)
-
--- So where there are too many chains, with the line that says it behind the text of the run.
-abbrev pub WroteTooMany : Seen → Seen → Type 0
-WroteTooMany source sink =
-    Held source (λ bytes. (text : List ℕ) × IsTooManyText bytes text × Took sink.before sink.after (text ++ codes "macsim: too many chains\n"))
 
 -- Where the bytes of the sink are known: it took the summary of the load, and nothing else; and nothing was read.
 abbrev pub WroteSummary : ℕ → ℕ → Seen → Seen → Type 0
@@ -63,19 +55,13 @@ IsSourceRefusal source refusal.TooLong = HadNoFault source × IsTooLong SCRIPT_L
 IsSourceRefusal source refusal.Memory = HadNoFault source
 IsSourceRefusal source other = ⊥
 
--- such a text of the script that the source held, or why there is none
-abbrev pub IsTextOutcome : (List ℕ → List ℕ → Type 0) → Seen → Result (List ℕ) Refusal → Type 0
-IsTextOutcome IsTextOf source (Ok text) = HadNoFault source × Held source (λ bytes. IsTextOf bytes text)
-IsTextOutcome IsTextOf source (Err refused) = IsSourceRefusal source refused
-
-abbrev pub IsChainsOutcome : Seen → Result (List ℕ) Refusal → Type 0
-IsChainsOutcome source (Err (refusal.TooManyChains text)) = HadNoFault source × Held source (λ bytes. IsTooManyText bytes (string_bytes text))
-IsChainsOutcome source outcome = IsTextOutcome IsChainsText source outcome
-
-abbrev pub IsStepOutcome : Seen → Result (List ℕ) Refusal → Type 0
-IsStepOutcome source (Ok text) = HadNoFault source × Held source (λ bytes. IsStepText bytes text)
-IsStepOutcome source (Err (refusal.Step number)) = HadNoFault source × Held source (λ bytes. RefusesStep bytes number)
-IsStepOutcome source (Err refused) = IsSourceRefusal source refused
+-- what is told of the script that the source held, in that order; or that a step of it is refused, that there is too much to tell, or why there is no
+-- script
+abbrev pub IsToldOutcome : Order → Telling → Seen → Result (List ℕ) Refusal → Type 0
+IsToldOutcome o t source (Ok text) = HadNoFault source × Held source (λ bytes. IsToldText o t bytes text)
+IsToldOutcome o t source (Err (refusal.Step number)) = HadNoFault source × Held source (λ bytes. RefusesStep o bytes number)
+IsToldOutcome o t source (Err (refusal.TooManyChains text)) = HadNoFault source × Held source (λ bytes. IsTooMuchText o t bytes (string_bytes text))
+IsToldOutcome o t source (Err refused) = IsSourceRefusal source refused
 
 abbrev pub IsCheckOutcome : Seen → Result (List ℕ) Refusal → Type 0
 IsCheckOutcome source (Err refusal.ReadFault) = FaultsRose source
@@ -98,10 +84,7 @@ IsUsageOutcome source outcome = (outcome ≡ Err refusal.Usage) × IsUnread sour
 
 abbrev pub IsOutcomeOf : Option Command → Seen → Result (List ℕ) Refusal → Type 0
 IsOutcomeOf None source outcome = IsUsageOutcome source outcome
-IsOutcomeOf (Some command.Run) source outcome = IsTextOutcome IsRunText source outcome
-IsOutcomeOf (Some command.Matrix) source outcome = IsTextOutcome IsMatrixText source outcome
-IsOutcomeOf (Some command.Chains) source outcome = IsChainsOutcome source outcome
-IsOutcomeOf (Some command.Step) source outcome = IsStepOutcome source outcome
+IsOutcomeOf (Some (command.Tell o t)) source outcome = IsToldOutcome o t source outcome
 IsOutcomeOf (Some command.Check) source outcome = IsCheckOutcome source outcome
 IsOutcomeOf (Some (command.Gen lines tasks)) source outcome = IsLoadOutcome lines tasks source outcome
 
@@ -177,10 +160,8 @@ HoldsAccepted source = IsSomeAnd source.before HoldsRun
 -- what the words ask for can be done: the source holds a script, where one is read, and with `check` a text that is accepted
 abbrev pub CanBeDone : Option Command → Seen → Type 0
 CanBeDone None source = ⊥
-CanBeDone (Some command.Run) source = HoldsScript source
-CanBeDone (Some command.Matrix) source = HoldsScript source
-CanBeDone (Some command.Chains) source = HoldsScript source
-CanBeDone (Some command.Step) source = HoldsSteps source
+CanBeDone (Some (command.Tell order.Threads t)) source = HoldsScript source
+CanBeDone (Some (command.Tell order.Steps t)) source = HoldsSteps source
 CanBeDone (Some command.Check) source = HoldsAccepted source
 CanBeDone (Some (command.Gen lines tasks)) source = Unit {0}
 
@@ -190,9 +171,9 @@ pub record IsFaultless (words : List (List ℕ)) (source sink : Seen) : Type 0 w
   pub source_stays : ¬ FaultsRose source
   pub sink_stays : ¬ FaultsRose sink
 
--- it is done, or memory ran out, or with `chains` there are too many
+-- it is done, or memory ran out, or where chains are told there are too many
 abbrev pub IsDone : Option Command → ℕ → Type 0
-IsDone (Some command.Chains) status = (status ≡ 0) ⊎ (status ≡ 9) ⊎ (status ≡ 11)
+IsDone (Some (command.Tell o telling.Chains)) status = (status ≡ 0) ⊎ (status ≡ 9) ⊎ (status ≡ 11)
 IsDone other status = (status ≡ 0) ⊎ (status ≡ 9)
 
 -- The same of the calls that do what one word asks for.

@@ -2,8 +2,8 @@ pub mod Reading
 pub mod Slots
 pub mod Passes
 pub mod Commands
-pub mod Steps
 pub mod Runs
+pub mod Tellings
 pub mod Check
 pub mod Answers
 pub mod Refusals

@@ -1,16 +1,12 @@
--- The texts that a run of a script tells, by docs/MANUAL.md (OUTPUT).
+-- The text of a run of a script, by docs/MANUAL.md (OUTPUT).
 use Rattle.std.specs.Prelude.{◌≡◌, ℕ, List, ◌++◌}
 use Rattle.mf_calls.specs.declared.script.Script.{Script}
-use Rattle.mf_chains.specs.Table.{AreTooMany}
-use Rattle.mf_chains.specs.ChainsText.{chains_text}
 use Rattle.mf_core.specs.declared.history.History.{History}
 use Rattle.mf_core.specs.LegalHistory.{IsLegal, IsComplete}
 use Rattle.mf_flow.specs.Laws.{AreInOrder}
 use Rattle.mf_flow.specs.SourcesText.{sources_text}
 use Rattle.mf_hist.specs.HistoryText.{history_text}
-use Rattle.mf_lifetimes.specs.Laws.{state_of}
 use Rattle.mf_lifetimes.specs.Once.{AreMadeOnce}
-use Rattle.mf_matrix.specs.MatrixText.{matrix_text}
 use Rattle.mf_top.specs.Reading.{AreScript}
 use Rattle.mf_top.specs.Slots.{AreMarked}
 
@@ -31,28 +27,6 @@ run_text s h = history_text s h ++ sources_text s h
 abbrev pub IsRunOf : Script → List ℕ → Type 0
 IsRunOf s text = (h : History) × IsRun s h × (text ≡ run_text s h)
 
--- behind them stands the matrix of the state at the end
-abbrev pub IsMatrixOf : Script → List ℕ → Type 0
-IsMatrixOf s text = (h : History) × IsRun s h × (text ≡ run_text s h ++ matrix_text (state_of s h))
-
--- behind them stand the chains that are kept, which aren't too many
-abbrev pub IsChainsOf : Script → List ℕ → Type 0
-IsChainsOf s text = (h : History) × IsRun s h × ¬ AreTooMany s h × (text ≡ run_text s h ++ chains_text s h)
-
--- the text is that of a run whose chains are too many
-abbrev pub IsTooManyOf : Script → List ℕ → Type 0
-IsTooManyOf s text = (h : History) × IsRun s h × AreTooMany s h × (text ≡ run_text s h)
-
 -- the bytes are a script, and the text is that of a legal and complete history of it
 abbrev pub IsRunText : List ℕ → List ℕ → Type 0
 IsRunText bytes text = (s : Script) × AreScript bytes s × IsRunOf s text
-
--- the same with the matrix, with the chains, and with too many
-abbrev pub IsMatrixText : List ℕ → List ℕ → Type 0
-IsMatrixText bytes text = (s : Script) × AreScript bytes s × IsMatrixOf s text
-
-abbrev pub IsChainsText : List ℕ → List ℕ → Type 0
-IsChainsText bytes text = (s : Script) × AreScript bytes s × IsChainsOf s text
-
-abbrev pub IsTooManyText : List ℕ → List ℕ → Type 0
-IsTooManyText bytes text = (s : Script) × AreScript bytes s × IsTooManyOf s text

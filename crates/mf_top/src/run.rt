@@ -1,5 +1,5 @@
 //! The tasks of a script or of a generated load, each in a thread of its own, on one kernel.
-ghost use Rattle.std.specs.Prelude.{◌≡◌, ◌≤◌, ◌+◌, false, length, map, vec_len, ◌↔◌, All, IfOk, IsTrue};
+ghost use Rattle.std.specs.Prelude.{◌≡◌, ◌≤◌, ◌+◌, false, length, map, vec_len, ◌↔◌, All, IfOk, IsTrue, string_bytes};
 ghost use Rattle.mf_policy.specs.Modules.{module_of};
 ghost use Rattle.mf_list.specs.Fresh.{IsFresh};
 ghost use Rattle.mf_calls.specs.declared.limits.TheConstants.{LINE_LIMIT, TASK_LIMIT};
@@ -7,14 +7,17 @@ ghost use Rattle.mf_calls.specs.WellFormed.{IsWellFormed};
 ghost use Rattle.mf_core.specs.declared.progress.Turn.TheVariants as turn;
 ghost use Rattle.mf_core.specs.AllModules.{AreAllModules};
 ghost use Rattle.mf_core.specs.CoreView.{all_lines, done_of, open_of};
+ghost use Rattle.mf_load.specs.Summary.{load_summary};
 ghost use Rattle.mf_share.specs.Passes.{AreOneEach, pass_turn};
+ghost use Rattle.mf_top.specs.declared.command.Order.TheVariants as order;
 ghost use Rattle.mf_top.specs.Answers.{IsLoaded};
 ghost use Rattle.mf_top.specs.Outcomes.{bytes_of_outcome};
 ghost use Rattle.mf_top.specs.Passes.{HaveAll, IsBack, IsLine, IsSameTicket, WentOn};
-ghost use Rattle.mf_top.specs.Scripts.{IsToldOf};
+ghost use Rattle.mf_top.specs.Scripts.{IsLoadOf, IsToldBy};
 
+use crate::command::Telling;
 use crate::refusal::Refusal;
-use crate::text::{Telling, tell};
+use crate::text::{summarize, tell_run};
 use mf_calls::{Script, generate};
 use mf_core::{Commit, Turn};
 use mf_flow::TrackedCore;
@@ -42,10 +45,10 @@ pub fn run_script<P: Policy, G: Gate, R: Threads + Wait + Sync>(
     requires formed { IsWellFormed script.now }
     requires modules { AreAllModules (map (λ p. module_of (P.spec p)) modules.items) }
     requires fresh { All (λ p. IsFresh (P.spec p)) modules.items }
-    ensures { IsToldOf telling script.now (bytes_of_outcome result) }
+    ensures { IsToldBy order.Threads telling script.now (bytes_of_outcome result) }
 {
     let tracked = run_core(rt, alloc, script, gate, modules)?;
-    let told = tell(rt, alloc, script, &tracked, telling);
+    let told = tell_run(rt, alloc, &tracked, telling);
     // What calls this writes the text and ends: to let go of the history, reply by reply, would only take time.
     forget(tracked);
     told
@@ -67,17 +70,33 @@ pub fn run_load<P: Policy, G: Gate, R: Threads + Wait + Sync>(
     ensures { IsLoaded lines tasks (bytes_of_outcome result) }
 {
     let script = generate(alloc, lines, tasks)?;
-    let told = run_script(
-        rt,
-        alloc,
-        &script,
-        gate,
-        modules,
-        Telling::Load(lines, tasks),
-    );
+    let summary = run_generated(rt, alloc, lines, tasks, &script, gate, modules);
     // Left as it is, as in `run_script`.
     forget(script);
-    told
+    Ok(summary?)
+}
+
+/// The summary of a run of the load's script.
+fn run_generated<P: Policy, G: Gate, R: Threads + Wait + Sync>(
+    rt: &R,
+    alloc: Global,
+    lines: u32,
+    tasks: u32,
+    script: &Script,
+    gate: &G,
+    modules: Vec<P>,
+) -> Result<String, AllocError>
+    requires formed { IsWellFormed script.now }
+    requires load { IsLoadOf lines tasks script.now }
+    requires modules { AreAllModules (map (λ p. module_of (P.spec p)) modules.items) }
+    requires fresh { All (λ p. IsFresh (P.spec p)) modules.items }
+    ensures { IfOk result (λ text. string_bytes text ≡ load_summary lines tasks) }
+{
+    let tracked = run_core(rt, alloc, script, gate, modules)?;
+    let summary = summarize(alloc, lines, tasks, &tracked);
+    // Left as it is, as in `run_script`.
+    forget(tracked);
+    summary
 }
 
 /// The core after each task of the script has run to its end: no entry is open, and all lines are done.

@@ -6,18 +6,20 @@ ghost use Rattle.mf_core.specs.AllModules.{AreAllModules};
 ghost use Rattle.mf_top.specs.declared.refusal.Refusal.{Refusal};
 ghost use Rattle.mf_io.specs.Outside.{seen};
 ghost use Rattle.mf_top.specs.declared.command.Command.TheVariants as command;
+ghost use Rattle.mf_top.specs.declared.command.Order.{Order};
+ghost use Rattle.mf_top.specs.declared.command.Order.TheVariants as order;
+ghost use Rattle.mf_top.specs.declared.command.Telling.{Telling};
+ghost use Rattle.mf_top.specs.declared.command.Telling.TheVariants as telling;
 ghost use Rattle.mf_top.specs.Commands.{command_of};
 ghost use Rattle.mf_top.specs.Check.{WroteYes};
-ghost use Rattle.mf_top.specs.Answers.{WroteHistory, WroteMatrix, WroteChains, WroteTooMany, WroteSummary, IsOutcomeOf, IsOutcome, IsWritten, IsDone, IsFaultless};
-ghost use Rattle.mf_top.specs.Scripts.{IsOfSource, word_for};
-ghost use Rattle.mf_top.specs.Steps.{WroteSteps};
+ghost use Rattle.mf_top.specs.Answers.{WroteHistory, WroteSummary, IsOutcome, IsToldOutcome, IsWritten, IsDone, IsFaultless};
+ghost use Rattle.mf_top.specs.Tellings.{WroteTold, WroteTooMany};
 ghost use Rattle.mf_top.specs.Outcomes.{bytes_of_outcome};
 
 use crate::check::check_source;
-use crate::command::Command;
+use crate::command::{Command, Order, Telling};
 use crate::refusal::Refusal;
 use crate::steps::step_source;
-use crate::text::Telling;
 use crate::{read, run, write};
 use mf_io::{Gate, Sink, Source};
 use mf_policy::Policy;
@@ -27,10 +29,11 @@ use std::sync::Wait;
 use std::thread::Threads;
 
 /// With the word `run` runs the script that the source holds, leaving its steps aside, and writes its history and the
-/// sources at its end to the sink; with `matrix` or `chains` writes the matrix of the state at the end, or the chains of
-/// the sources, behind them; with `step` takes the script's steps one after another, and writes what they print and the
-/// sources at their end; with `check` tells whether the source holds a script and the text of a run of it; with `gen N T`
-/// runs the generated load, and writes its summary. Returns the program's exit status: 0, the status of a `Refusal`, or 5
+/// sources at its end to the sink; with `step` takes the script's steps one after another, and writes what they print and
+/// the sources at their end; behind either, with `matrix`, `chains` or `why` too, writes the matrix of the state at the end,
+/// the chains of the sources, or why calls were denied, with `why all` also by which rules others were allowed; with `check`
+/// tells whether the source holds a script and the text of a run of it; with `gen N T` runs the generated load, and writes its
+/// summary. Returns the program's exit status: 0, the status of a `Refusal`, or 5
 /// where a write failed. `words` are those after the program's name. Nothing is written before the run has ended.
 /// `modules` has a policy of each module, once, in its initial state. The tasks of a run go on side by side, and call
 /// `gate`.
@@ -50,32 +53,24 @@ pub fn macsim<S: Source, K: Sink, G: Gate, P: Policy, R: Threads + Wait + Sync>(
     // complete for it, and of its sources, and nothing else. In it each label slot is made and ended at most once, at its
     // end a live entity's slot is unset exactly where it has no mark, and each source of a party stands in the order of its
     // policy. Where source or sink doesn't tell its bytes, there are bytes of which this holds.
-    ensures headline { command_of (map string_bytes words.now) ≡ Some command.Run → result ≡ 0
+    ensures headline { command_of (map string_bytes words.now)
+        ≡ Some (command.Tell order.Threads telling.Sources) → result ≡ 0
         → WroteHistory (seen S.left S.faults source.old source.new)
         (seen K.taken K.faults sink.old sink.new) }
 
-    // With `matrix` and 0 the source held a script to its end, and the sink took the text of such a history and of its sources,
-    // and then of what each process may do to each party at its end, and nothing else.
-    ensures matrix { command_of (map string_bytes words.now) ≡ Some command.Matrix → result ≡ 0
-        → WroteMatrix (seen S.left S.faults source.old source.new)
-        (seen K.taken K.faults sink.old sink.new) }
-
-    // With `chains` and 0 the source held a script to its end, and the sink took the text of such a history and of its sources,
-    // and then of the chain that is kept for each source, and nothing else.
-    ensures chains { command_of (map string_bytes words.now) ≡ Some command.Chains → result ≡ 0
-        → WroteChains (seen S.left S.faults source.old source.new)
+    // With `run` or `step`, whatever is to be told, and 0 the source held a script to its end, and the sink took the text of a
+    // history of it in that order, of the sources at its end, and of what is told behind them, and nothing else. Of a history
+    // by steps, which were all taken, is said what `headline` says of a run's, but that it is complete.
+    ensures told { (o : Order) (t : Telling)
+        → command_of (map string_bytes words.now) ≡ Some (command.Tell o t) → result ≡ 0
+        → WroteTold o t (seen S.left S.faults source.old source.new)
         (seen K.taken K.faults sink.old sink.new) }
 
     // With `chains` and 11 the source held a script to its end, and the sink took the text of such a history, whose chains are
     // too many, and of its sources, and then the line that says so, and nothing else.
-    ensures too_many { command_of (map string_bytes words.now) ≡ Some command.Chains → result ≡ 11
-        → WroteTooMany (seen S.left S.faults source.old source.new)
-        (seen K.taken K.faults sink.old sink.new) }
-
-    // With `step` and 0 the source held a script to its end, each of its steps was taken, and the sink took their text and
-    // that of the sources at their end, and nothing else.
-    ensures steps { command_of (map string_bytes words.now) ≡ Some command.Step → result ≡ 0
-        → WroteSteps (seen S.left S.faults source.old source.new)
+    ensures too_many { (o : Order)
+        → command_of (map string_bytes words.now) ≡ Some (command.Tell o telling.Chains)
+        → result ≡ 11 → WroteTooMany o (seen S.left S.faults source.old source.new)
         (seen K.taken K.faults sink.old sink.new) }
 
     // With `check` and 0 the source held, to its end, a script and the text of a run of it, as with `run`, and the sink took
@@ -96,9 +91,9 @@ pub fn macsim<S: Source, K: Sink, G: Gate, P: Policy, R: Threads + Wait + Sync>(
         (seen S.left S.faults source.old source.new) outcome
         × IsWritten (seen K.taken K.faults sink.old sink.new) outcome result }
 
-    // The right words, with `run`, `matrix` and `chains` a script, with `step` one whose steps are all in turn, with `check` a
-    // script and the text of a run of it, over a source and a sink that don't fail, give 0, or 9 if memory runs out, or with
-    // `chains` 11 if there are too many.
+    // The right words, with `run` a script, with `step` one whose steps are all in turn, with `check` a script and the text of
+    // a run of it, over a source and a sink that don't fail, give 0, or 9 if memory runs out, or with `chains` 11 if there are
+    // too many.
     ensures complete { IsFaultless (map string_bytes words.now)
         (seen S.left S.faults source.old source.new) (seen K.taken K.faults sink.old sink.new)
         → IsDone (command_of (map string_bytes words.now)) result }
@@ -107,7 +102,7 @@ pub fn macsim<S: Source, K: Sink, G: Gate, P: Policy, R: Threads + Wait + Sync>(
     write::write_outcome(alloc, sink, outcome)
 }
 
-/// The text that the words ask for: of a run, of the steps, of the load's summary, or `yes`; or why there is none.
+/// The text that the words ask for: what is told of a script, the load's summary, or `yes`; or why there is none.
 fn outcome_of<S: Source, G: Gate, P: Policy, R: Threads + Wait + Sync>(
     rt: &R,
     alloc: Global,
@@ -123,17 +118,19 @@ fn outcome_of<S: Source, G: Gate, P: Policy, R: Threads + Wait + Sync>(
 {
     match Command::of_words(words) {
         None => Err(Refusal::Usage),
-        Some(Command::Run) => run_source(rt, alloc, source, gate, modules, Telling::Run),
-        Some(Command::Matrix) => run_source(rt, alloc, source, gate, modules, Telling::Matrix),
-        Some(Command::Chains) => run_source(rt, alloc, source, gate, modules, Telling::Chains),
-        Some(Command::Step) => step_source(alloc, source, modules),
+        Some(Command::Tell(Order::Threads, telling)) => {
+            run_source(rt, alloc, source, gate, modules, telling)
+        }
+        Some(Command::Tell(Order::Steps, telling)) => {
+            step_source(rt, alloc, source, modules, telling)
+        }
         Some(Command::Check) => check_source(alloc, source),
         Some(Command::Gen(lines, tasks)) => run::run_load(rt, alloc, lines, tasks, gate, modules),
     }
 }
 
 /// What is told of a run of what the source holds.
-#[tactic(auto, using(crate::proofs::FromSource::ran, crate::proofs::FromSource::not_run))]
+#[tactic(auto, using(crate::proofs::FromSource::told, crate::proofs::FromSource::not_told))]
 fn run_source<S: Source, G: Gate, P: Policy, R: Threads + Wait + Sync>(
     rt: &R,
     alloc: Global,
@@ -142,10 +139,9 @@ fn run_source<S: Source, G: Gate, P: Policy, R: Threads + Wait + Sync>(
     modules: Vec<P>,
     telling: Telling,
 ) -> Result<String, Refusal>
-    requires telling { IsOfSource telling }
     requires modules { AreAllModules (map (λ p. module_of (P.spec p)) modules.items) }
     requires fresh { All (λ p. IsFresh (P.spec p)) modules.items }
-    ensures { IsOutcomeOf (word_for telling)
+    ensures { IsToldOutcome order.Threads telling
         (seen S.left S.faults source.old source.new) (bytes_of_outcome result) }
 {
     let script = read::read_source(alloc, source)?;

@@ -3,7 +3,7 @@ use Rattle.mf_top.specs.Commands.{command_of}
 use Rattle.mf_top.specs.Outcomes.{bytes_of_outcome}
 use Rattle.mf_top.proofs.Complete.{complete}
 use Rattle.mf_top.proofs.Told.{told_cause}
-use Rattle.mf_top.proofs.Wrote.{chains_asked, check_asked, history_asked, matrix_asked, steps_asked, summary_asked, too_many_asked}
+use Rattle.mf_top.proofs.Wrote.{check_asked, history_asked, summary_asked, told_asked, too_many_asked}
 use Rattle.mf_top.proofs.top.macsim.Goals as goal
 
 pub returns-clause-headline : goal.returns-clause-headline
@@ -12,28 +12,16 @@ returns-clause-headline g c asked zero =
     history_asked _ _ told.0 c.write_outcome.result zero told.2 (command_of (map string_bytes c.args.words.now)) asked
     (told_cause _ _ (bytes_of_outcome c.outcome_of-outcome.result) told.0 told.1 c.outcome_of-outcome.ensures)
 
-pub returns-clause-matrix : goal.returns-clause-matrix
-returns-clause-matrix g c asked zero =
+pub returns-clause-told : goal.returns-clause-told
+returns-clause-told g c o t asked zero =
     let told = c.write_outcome.ensures in
-    matrix_asked _ _ told.0 c.write_outcome.result zero told.2 (command_of (map string_bytes c.args.words.now)) asked
-    (told_cause _ _ (bytes_of_outcome c.outcome_of-outcome.result) told.0 told.1 c.outcome_of-outcome.ensures)
-
-pub returns-clause-chains : goal.returns-clause-chains
-returns-clause-chains g c asked zero =
-    let told = c.write_outcome.ensures in
-    chains_asked _ _ told.0 c.write_outcome.result zero told.2 (command_of (map string_bytes c.args.words.now)) asked
+    told_asked _ _ told.0 c.write_outcome.result zero told.2 o t (command_of (map string_bytes c.args.words.now)) asked
     (told_cause _ _ (bytes_of_outcome c.outcome_of-outcome.result) told.0 told.1 c.outcome_of-outcome.ensures)
 
 pub returns-clause-too_many : goal.returns-clause-too_many
-returns-clause-too_many g c asked eleven =
+returns-clause-too_many g c o asked eleven =
     let told = c.write_outcome.ensures in
-    too_many_asked _ _ told.0 c.write_outcome.result eleven told.2 (command_of (map string_bytes c.args.words.now)) asked
-    (told_cause _ _ (bytes_of_outcome c.outcome_of-outcome.result) told.0 told.1 c.outcome_of-outcome.ensures)
-
-pub returns-clause-steps : goal.returns-clause-steps
-returns-clause-steps g c asked zero =
-    let told = c.write_outcome.ensures in
-    steps_asked _ _ told.0 c.write_outcome.result zero told.2 (command_of (map string_bytes c.args.words.now)) asked
+    too_many_asked _ _ told.0 c.write_outcome.result eleven told.2 o (command_of (map string_bytes c.args.words.now)) asked
     (told_cause _ _ (bytes_of_outcome c.outcome_of-outcome.result) told.0 told.1 c.outcome_of-outcome.ensures)
 
 pub returns-clause-check : goal.returns-clause-check
