@@ -34,15 +34,49 @@ const RUNS: &[Case] = &[
     PLAIN,
     Case {
         name: "the matrix behind the plainest denial",
-        words: &["matrix"],
+        words: &["run", "matrix"],
         text: "boot mac_biba 0\nenter t\ndone t 1 no EACCES vnode_open_read mac_biba 2\nleave t\nsource biba vnode:/ high\nsource biba vnode:/a low\nsource biba proc:t high\nmatrix proc:t vnode:/ rwxs\nmatrix proc:t vnode:/a -w--\nmatrix proc:t proc:t vgdc\n",
         ..PLAIN
     },
     Case {
         name: "the chains behind a read and a write to a pipe",
-        words: &["chains"],
+        words: &["run", "chains"],
         script: "boot mac_biba\nfile /a reg uid 0 gid 0 mode 644 label biba/high text hi\ntask t uid 0 gid 0 label biba/5\nread /a\npipe p\npwrite p x\nend\n",
         text: "boot mac_biba 0\nenter t\ndone t 1 ok bytes 2 =hi\nleave t\nenter t\ndone t 2 ok\nleave t\nenter t\ndone t 3 ok\nleave t\nsource biba vnode:/ high\nsource biba vnode:/a high\nsource biba proc:t 5,high\nsource biba pipe:p 5,high\nchain biba vnode:/ high 0@0\nchain biba vnode:/a high 1@0\nchain biba proc:t 5 2@0\nchain biba proc:t high 0@0 2@2.1\nchain biba pipe:p 5 3@5\nchain biba pipe:p high 0@0 2@2.1 3@5.0\n",
+        ..PLAIN
+    },
+    Case {
+        name: "a matrix without the word run",
+        words: &["matrix"],
+        script: "task t uid 0 gid 0 label -\nend\n",
+        text: "matrix proc:t vnode:/ rwxs\nmatrix proc:t proc:t vgdc\n",
+        ..PLAIN
+    },
+    Case {
+        name: "chains without the word run",
+        words: &["chains"],
+        script: "boot mac_biba\ntask t uid 0 gid 0 label -\nend\n",
+        text: "boot mac_biba 0\nsource biba vnode:/ high\nsource biba proc:t high\nchain biba vnode:/ high 0@0\nchain biba proc:t high 1@0\n",
+        ..PLAIN
+    },
+    Case {
+        name: "why the plainest denial came",
+        words: &["run", "why"],
+        text: "boot mac_biba 0\nenter t\ndone t 1 no EACCES vnode_open_read mac_biba 2\nleave t\nsource biba vnode:/ high\nsource biba vnode:/a low\nsource biba proc:t high\ndenied t 1 2 vnode_open_read proc:t vnode:/a\nwhy t 1 mac_biba decides EACCES observe subject high object low\n",
+        ..PLAIN
+    },
+    Case {
+        name: "why calls were denied behind a lowering, and what the framework refused",
+        words: &["run", "why"],
+        script: "boot mac_lomac\nfile /lo reg uid 0 gid 0 mode 644 label lomac/5 text hi\ntask t uid 1 gid 0 label lomac/9\nread /lo\nwrite / x\ncreate /n\npriv SCHED_RTPRIO\nend\n",
+        text: "boot mac_lomac 0\nenter t\ndone t 1 ok bytes 2 =hi\nleave t\nenter t\ndone t 2 no EISDIR - -\nleave t\nenter t\ndone t 3 no EACCES vnode_create mac_lomac 2\nleave t\nenter t\ndone t 4 no EPERM priv - 1\nleave t\nsource lomac vnode:/ high\nsource lomac vnode:/lo 5\nsource lomac proc:t 5,9,high\nlowered t 1 2 proc:t 9 5 vnode:/lo\ndenied t 3 2 vnode_create proc:t vnode:/\nwhy t 3 mac_lomac decides EACCES modify subject 5 object high\ndenied t 4 1 priv proc:t -\nwhy t 4 - decides EPERM privilege SCHED_RTPRIO uid 1\n",
+        ..PLAIN
+    },
+    Case {
+        name: "by which rules calls were allowed and denied",
+        words: &["run", "why", "all"],
+        script: "boot mac_bsdextended\nboot mac_portacl\nfile /f reg uid 1 gid 1 mode 644 label - text hi\ntask t uid 0 gid 0 label -\nugidfw add subject uid 0 object uid 1 mode r\nsysctl security.mac.portacl.rules=uid:0:tcp:80\nsysctl security.mac.portacl.suser_exempt=0\nsocket s\nread /f\nwrite /f x\nbind s tcp 80\nbind s udp 80\nend\n",
+        text: "boot mac_bsdextended -\nboot mac_portacl -\nchanged t 1 ok rule 0\nchanged t 2 ok\nchanged t 3 ok\nenter t\ndone t 4 ok\nleave t\nenter t\ndone t 5 ok bytes 2 =hi\nleave t\nenter t\ndone t 6 no EACCES vnode_open_write mac_bsdextended 2\nleave t\nenter t\ndone t 7 ok\nleave t\nenter t\ndone t 8 no EPERM socket_bind mac_portacl 1\nleave t\nlet t 5 2 mac_bsdextended rule 0 wants r gives r\nlet t 5 3 mac_bsdextended rule 0 wants n gives r\ndenied t 6 2 vnode_open_write proc:t vnode:/f\nwhy t 6 mac_bsdextended decides EACCES rule 0 wants w gives r\nlet t 7 1 mac_portacl place 1 uid 0 tcp 80\ndenied t 8 1 socket_bind proc:t socket:s\nwhy t 8 mac_portacl decides EPERM port udp 80 uid 0\n",
         ..PLAIN
     },
     Case {
@@ -198,7 +232,17 @@ const OTHER_WORDS: &[&[&str]] = &[
     &["walk"],
     &["steps"],
     &["step", "1"],
+    &["run", "1"],
     &["run", "1", "1"],
+    &["run", "step"],
+    &["run", "matrix", "chains"],
+    &["matrix", "chains"],
+    &["why"],
+    &["run", "all"],
+    &["run", "why", "1"],
+    &["run", "chains", "all"],
+    &["matrix", "why"],
+    &["check", "matrix"],
     &["gen"],
     &["gen", "1"],
     &["gen", "0", "1"],

@@ -2,7 +2,7 @@
 
 use crate::tests::transcript::Transcript;
 use crate::tests::{run_with, source_of, wants_that};
-use mf_io::{MemSink, MemSource, OpenGate};
+use mf_io::{MemSink, OpenGate};
 use std::alloc::{AllocError, Global};
 use std::process::Abort;
 use std::sync::Wait;
@@ -196,14 +196,25 @@ fn row_of_processes(alloc: Global) -> Result<String, AllocError> {
     Ok(script)
 }
 
-/// Wants the script that the source gives to have too many chains.
+/// Adds the steps of so many calls of the task.
+fn add_steps(script: &mut String, calls: u32) -> Result<(), AllocError> {
+    script.push_str("steps\n")?;
+    for _ in 0..calls {
+        script.push_str("enter t\nplan t\ndone t\nleave t\n")?;
+    }
+    script.push_str("end\n")
+}
+
+/// Wants the script to have too many chains by these words.
 fn wants_too_many_chains<R: Abort + Threads + Wait + Sync>(
     rt: &R,
     alloc: Global,
-    source: &mut MemSource,
+    words: &[&str],
+    script: &str,
 ) -> Result<(), AllocError> {
+    let source = &mut source_of(alloc, script, 1_000, &[])?;
     let sink = &mut MemSink::new(alloc, 200_000, 1_000, Vec::new(alloc))?;
-    let status = run_with(rt, alloc, &["chains"], source, sink, &OpenGate)?;
+    let status = run_with(rt, alloc, words, source, sink, &OpenGate)?;
     let is_told = sink.taken().ends_with(b"high\nmacsim: too many chains\n");
     wants_that(rt, "too many chains", status == 11 && is_told);
     Ok(())
@@ -211,7 +222,8 @@ fn wants_too_many_chains<R: Abort + Threads + Wait + Sync>(
 
 #[test]
 fn too_many_chains(rt: HostRuntime) -> Result<(), AllocError> {
-    let script = row_of_processes(rt.alloc())?;
-    let mut source = source_of(rt.alloc(), script.as_str(), 1_000, &[])?;
-    wants_too_many_chains(&rt, rt.alloc(), &mut source)
+    let mut script = row_of_processes(rt.alloc())?;
+    add_steps(&mut script, 901)?;
+    wants_too_many_chains(&rt, rt.alloc(), &["run", "chains"], script.as_str())?;
+    wants_too_many_chains(&rt, rt.alloc(), &["step", "chains"], script.as_str())
 }

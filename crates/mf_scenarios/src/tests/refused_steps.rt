@@ -7,6 +7,22 @@ use std::alloc::AllocError;
 /// Each with a step that names no task, or isn't in turn.
 const REFUSED: &[Case] = &[
     Case {
+        name: "no task, where a matrix is asked for",
+        words: &["step", "matrix"],
+        script: "boot mac_biba\ntask t uid 0 gid 0 label -\nread /f\nend\nsteps\nenter t\nenter u\nend\n",
+        status: 7,
+        text: "macsim: step 2 refused\n",
+        ..STEPPED
+    },
+    Case {
+        name: "no task, where chains are asked for",
+        words: &["step", "chains"],
+        script: "boot mac_biba\ntask t uid 0 gid 0 label -\nread /f\nend\nsteps\nenter t\nenter u\nend\n",
+        status: 7,
+        text: "macsim: step 2 refused\n",
+        ..STEPPED
+    },
+    Case {
         name: "no task",
         script: "task t uid 0 gid 0 label -\nread /f\nend\ntask l uid 0 gid 0 label -\nkldload mac_biba\nend\nsteps\nenter u\nend\n",
         status: 7,

@@ -17,6 +17,10 @@ const NO_STEPS: Case = Case {
     ..STEPPED
 };
 
+/// Steps that end before the task does: the pipe is not made.
+const READ_ALONE: &str =
+    "boot mac_lomac\nfile /lo reg uid 0 gid 0 mode 644 label lomac/5 text hi\ntask t uid 0 gid 0 label lomac/9\nread /lo\npipe p\nend\nsteps\nenter t\nplan t\ndone t\nleave t\nend\n";
+
 /// Scripts, each of whose steps is in turn, and what the program then writes.
 const TAKEN: &str = "a change waits while an entry is open
 boot mac_partition
@@ -358,9 +362,30 @@ end
 = changed r 3 no EINVAL - -
 ";
 
-/// A script without steps, and a sink that fails.
+/// A script without steps, what is told of steps besides, and a sink that fails.
 const CASES: &[Case] = &[
     NO_STEPS,
+    Case {
+        name: "the matrix where the steps end",
+        words: &["step", "matrix"],
+        script: READ_ALONE,
+        text: "boot mac_lomac 0\nenter t\ndone t 1 ok bytes 2 =hi\nleave t\nsource lomac vnode:/ high\nsource lomac vnode:/lo 5\nsource lomac proc:t 5,9,high\nmatrix proc:t vnode:/ r-xs\nmatrix proc:t vnode:/lo rwxs\nmatrix proc:t proc:t vgdc\n",
+        ..STEPPED
+    },
+    Case {
+        name: "the chains where the steps end",
+        words: &["step", "chains"],
+        script: READ_ALONE,
+        text: "boot mac_lomac 0\nenter t\ndone t 1 ok bytes 2 =hi\nleave t\nsource lomac vnode:/ high\nsource lomac vnode:/lo 5\nsource lomac proc:t 5,9,high\nchain lomac vnode:/ high 0@0\nchain lomac vnode:/lo 5 1@0\nchain lomac proc:t 5 1@0 2@2.2\nchain lomac proc:t 9 2@0\nchain lomac proc:t high 0@0 2@2.1\n",
+        ..STEPPED
+    },
+    Case {
+        name: "where the steps lowered their process",
+        words: &["step", "why", "all"],
+        script: READ_ALONE,
+        text: "boot mac_lomac 0\nenter t\ndone t 1 ok bytes 2 =hi\nleave t\nsource lomac vnode:/ high\nsource lomac vnode:/lo 5\nsource lomac proc:t 5,9,high\nlowered t 1 2 proc:t 9 5 vnode:/lo\n",
+        ..STEPPED
+    },
     Case {
         name: "a sink that fails",
         script: "boot mac_biba\ntask t uid 0 gid 0 label -\nread /\nend\nsteps\nenter t\nend\n",
