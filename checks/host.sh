@@ -57,9 +57,11 @@ comes_back() {
         grep -v ' | ' "$text" >"$folder/text"
         [ ! -e "${text%.out}.matrix" ] || cat "${text%.out}.matrix" >>"$folder/text"
         [ ! -e "${text%.out}.chains" ] || cat "${text%.out}.chains" >>"$folder/text"
+        [ ! -e "${text%.out}.why" ] || cat "${text%.out}.why" >>"$folder/text"
         cat "$folder/text" >>"$folder/texts"
     done
     printf 'waits t 2\nstale t\nmacsim: script line 2 fault 12 BootRefused EEXIST\n' >>"$folder/texts"
+    PYTHONPATH=checks python3 -B -c 'import why_scripts; print(*(line for row in why_scripts.ROWS for line in row.lines), sep="\n")' >>"$folder/texts"
     tools/json "$folder/texts" >"$folder/objects" && tools/json --back "$folder/objects" | cmp -s - "$folder/texts" &&
         [ "$(wc -l <"$folder/objects")" -eq "$(wc -l <"$folder/texts")" ] && python3 -B -c 'import json, sys; [json.loads(line) for line in sys.stdin]' <"$folder/objects"
 }

@@ -26,7 +26,7 @@ answers() {
 # Whether help has a line for each of the program's words and each tool, and tells where the manual is.
 helps() {
     answers "$1" || return 1
-    for word in run matrix chains step check 'gen N T' --unproved --proved --path --version; do
+    for word in run 'run why' 'run why all' 'run matrix' 'run chains' step matrix chains check 'gen N T' --unproved --proved --path --version; do
         grep -qE "^ *(\./macsim )?$word " "$folder/printed" || return 1
     done
     for tool in tools/*; do
@@ -41,11 +41,13 @@ has_version() {
         "$(rt version)" "$PWD/crates/macsim/out/macsim" | cmp -s - "$folder/printed"
 }
 
-# Whether a run over a file is that over the standard input, the words in front as they are.
+# Whether a run over a file with this status is that over the standard input, the words in front as they are.
 opens() {
-    ./macsim "$1" "$2" </dev/null >"$folder/printed" 2>"$folder/told"
+    wanted=$1 file=$2
+    shift 2
+    ./macsim "$@" "$file" </dev/null >"$folder/printed" 2>"$folder/told"
     status=$?
-    ./macsim "$1" <"$2" 2>"$folder/other" | cmp -s - "$folder/printed" && cmp -s "$folder/told" "$folder/other" && [ "$status" -eq "$3" ]
+    ./macsim "$@" <"$file" 2>"$folder/other" | cmp -s - "$folder/printed" && cmp -s "$folder/told" "$folder/other" && [ "$status" -eq "$wanted" ]
 }
 
 opens_from_elsewhere() {
@@ -54,8 +56,10 @@ opens_from_elsewhere() {
 
 # Whether a file that can't be read is told with 4, and nothing is printed.
 cannot_open() {
-    ./macsim "$1" "$2" <"$script" >"$folder/printed" 2>"$folder/told"
-    [ "$?" -eq 4 ] && [ "$(cat "$folder/told")" = "macsim: $2: can't be read" ] && [ ! -s "$folder/printed" ]
+    file=$1
+    shift
+    ./macsim "$@" "$file" <"$script" >"$folder/printed" 2>"$folder/told"
+    [ "$?" -eq 4 ] && [ "$(cat "$folder/told")" = "macsim: $file: can't be read" ] && [ ! -s "$folder/printed" ]
 }
 
 # Whether a terminal shows the text, where these words are given, and ends with 0.
@@ -87,18 +91,32 @@ check 'help and more' tells 2 "$script" "$no_words" help run
 check '--version' has_version
 check '--path' answers --path
 check 'what --path tells' test "$(cat "$folder/printed")" = "$PWD/crates/macsim/out/macsim"
-for word in run matrix chains; do check "a file behind $word" opens "$word" "$script" 0; done
-check 'a file behind step' opens step examples/39-rules-first.macsim 0
-check 'a file behind check' opens check "$folder/checked" 0
-check 'a file that is no script' opens run "$folder/bad" 3
+for word in run matrix chains; do check "a file behind $word" opens 0 "$script" "$word"; done
+check 'a file behind step' opens 0 examples/39-rules-first.macsim step
+for word in matrix chains; do
+    check "a file behind run $word" opens 0 "$script" run "$word"
+    check "a file behind step $word" opens 0 examples/39-rules-first.macsim step "$word"
+done
+for words in why 'why all'; do
+    check "a file behind run $words" opens 0 "$script" run $words
+    check "a file behind step $words" opens 0 examples/39-rules-first.macsim step $words
+done
+check 'a file behind check' opens 0 "$folder/checked" check
+check 'a file that is no script' opens 3 "$folder/bad" run
+check 'a file that is no script, behind two words' opens 3 "$folder/bad" step chains
 check 'a file of another folder' opens_from_elsewhere
 check 'a file behind --proved' answers --proved run "$script"
 check 'a file behind gen' tells 2 "$script" "$no_words" gen 1 1 "$script"
 check 'two files' tells 2 "$script" "$no_words" run "$script" "$script"
-check 'no file' cannot_open run "$folder/nothing"
-check 'no file, where a word stands' cannot_open run matrix
-check 'a folder' cannot_open step .
+check 'two files behind two words' tells 2 "$script" "$no_words" run matrix "$script" "$script"
+check 'two files behind three words' tells 2 "$script" "$no_words" run why all "$script" "$script"
+check 'no file' cannot_open "$folder/nothing" run
+check 'no file behind three words' cannot_open "$folder/nothing" step why all
+check 'no file behind two words' cannot_open "$folder/nothing" step matrix
+check 'no file, where a word stands' cannot_open step run
+check 'a folder' cannot_open . step
 check 'at a terminal' shows 'macsim: reading the standard input, up to Ctrl-D; a file is read by ./macsim run FILE' run
+check 'two words at a terminal' shows 'macsim: reading the standard input, up to Ctrl-D; a file is read by ./macsim step chains FILE' step chains
 check 'a file at a terminal' shows '' run "$script"
 check 'gen at a terminal' shows '' gen 1 1
 print_count

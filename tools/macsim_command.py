@@ -80,11 +80,11 @@ def program_at_hand() -> str:
     return ran.stdout.decode().rstrip("\n")
 
 
-def ended(program: str | Path | None, word: str, given: str) -> tuple[int, str]:
-    """How a program ended with this word over this text, and what it printed; without a program that at hand is run."""
+def ended(program: str | Path | None, words: str, given: str) -> tuple[int, str]:
+    """How a program ended with these words over this text, and what it printed; without a program that at hand is run."""
     program = program or program_at_hand()
     try:
-        ran = subprocess.run([program, word], input=given.encode("latin-1"), stdout=subprocess.PIPE, check=False)
+        ran = subprocess.run([program, *words.split()], input=given.encode("latin-1"), stdout=subprocess.PIPE, check=False)
     except OSError as error:
         raise BadInput(program, None, error.strerror) from None
     return ran.returncode, ran.stdout.decode("latin-1")

@@ -1,7 +1,7 @@
 """The lines that macsim prints as JSON, one object for each, and back. Nothing of it is proved.
 
-Each kind of line is a row of LINES, and each kind of reply a row of REPLIES: its text, with the names of fields in braces. What a field holds stands in
-FIELDS by its name. So a new kind of line is a row, and a new field another.
+Each kind of line is a row of LINES, each kind of reply a row of REPLIES, and each reason a row of TESTS: its text, with the names of fields in braces. What a
+field holds stands in FIELDS by its name, or in OWN_FIELDS where a row has another of that name. So a new kind of line is a row, and a new field another.
 """
 from __future__ import annotations
 
@@ -25,6 +25,11 @@ LINES = {
     "source": "source {policy} {title} {elements}",
     "matrix": "matrix {subject} {object} {letters}",
     "chain": "chain {policy} {title} {element} {origin}{steps}",
+    "lowered": "lowered {task} {call} {check} {title} {old} {new} {object}",
+    "let": "let {task} {call} {check} {module} {reason}",
+    "denied": "denied {task} {call} {check} {operation} {subject} {object}",
+    "why": "why {task} {call} {module} {mark} {errno} {reason}",
+    "also": "also {task} {call} {module} {reason}",
     "error": "macsim: {said}",
 }
 REPLIES = {
@@ -41,6 +46,28 @@ REPLIES = {
     "slot": "ok slot {slot}",
     "refused": "no {errno} - -",
     "denied": "no {errno} {operation} {decider} {check}",
+}
+TESTS = {
+    "observe": "observe subject {subject} object {object}",
+    "modify": "modify subject {subject} object {object}",
+    "level": "level subject {subject} object {object}",
+    "fit": "fit element {element} asked {asked}",
+    "range": "range asked {asked} own {own}",
+    "element": "element asked {element} own {own}",
+    "present": "present object {object} own {own}",
+    "plain": "plain asked {asked}",
+    "equal": "equal subject {subject} own {own}",
+    "equal_alone": "equal subject {subject}",
+    "dominate": "dominate subject {subject} asked {element}",
+    "dominate_object": "dominate subject {subject} object {object}",
+    "privileged": "privileged subject {subject} own {own}",
+    "partition": "partition subject {subject} object {object}",
+    "join": "join asked {asked} uid {uid}",
+    "rule": "rule {rule} wants {wants} gives {gives}",
+    "user": "user subject {subject} object {object}",
+    "port": "port {protocol} {port} uid {uid}",
+    "privilege": "privilege {privilege} uid {uid}",
+    "place": "place {place} {whose} {id} {protocol} {port}",
 }
 
 
@@ -116,12 +143,12 @@ def compiled(pattern: str) -> re.Pattern[str]:
 
 
 # The tables, by the field that says which row of them an object is told by.
-TABLES = {"line": LINES, "kind": REPLIES}
+TABLES = {"line": LINES, "kind": REPLIES, "test": TESTS}
 
 
 @cache
 def table_of(called: str) -> list[tuple[str, Row, re.Pattern[str]]]:
-    rows = [(kind, Row(template, FIELDS)) for kind, template in TABLES[called].items()]
+    rows = [(kind, Row(template, {**FIELDS, **OWN_FIELDS.get((called, kind), {})})) for kind, template in TABLES[called].items()]
     return [(kind, row, compiled(row.pattern(is_named=True))) for kind, row in rows]
 
 
@@ -152,11 +179,25 @@ TITLE = text("(?:proc|vnode|pipe|socket):[^ ]+")
 MODULE = text("mac_[a-z]+")
 ORIGIN = record("{id}@{event}", id=NUMBER, event=NUMBER)
 STEP = record("{id}@{event}.{item}", id=NUMBER, event=NUMBER, item=NUMBER)
+# Two elements, or none.
+RANGE = Field(
+    f"-|(?:{ELEMENT.pattern})-(?:{ELEMENT.pattern})",
+    object,
+    lambda word: None if word == "-" else word.split("-"),
+    lambda value: "-" if value is None else "-".join(value),
+)
 LOADED = record("{module}:{slot}", module=MODULE, slot=SLOT)
 RULE = record("{number} {rule}", number=NUMBER, rule=text("subject [^;]+"))
 FIELDS = {
-    **dict.fromkeys(("inside", "call", "length", "fd", "size", "uid", "gid", "count", "check"), NUMBER),
+    **dict.fromkeys(("inside", "call", "length", "fd", "size", "uid", "gid", "count", "check", "port", "place", "id"), NUMBER),
     **dict.fromkeys(("title", "object"), TITLE),
+    **dict.fromkeys(("old", "new"), ELEMENT),
+    **dict.fromkeys(("wants", "gives"), text("a?r?s?w?x?|n")),
+    "reason": told_by("test"),
+    "mark": text("decides|also"),
+    "protocol": text("tcp|udp"),
+    "privilege": text("[A-Z_]+"),
+    "whose": text("uid|gid"),
     "subject": text("proc:[^ ]+"),
     "module": MODULE,
     "slot": SLOT,
@@ -180,6 +221,14 @@ FIELDS = {
     "errno": text("E[A-Z]+"),
     "operation": text("[a-z_]+"),
     "decider": optional("mac_[a-z]+"),
+}
+NUMBERS = dict.fromkeys(("subject", "object", "asked"), NUMBER)
+ELEMENTS = {**dict.fromkeys(("subject", "object"), ELEMENT), "asked": RANGE, "own": RANGE}
+OWN_FIELDS = {
+    ("line", "denied"): {"subject": text("(?:proc|socket):[^ ]+"), "object": optional(TITLE.pattern)},
+    ("line", "why"): {"module": optional(MODULE.pattern)},
+    **{("test", kind): ELEMENTS for kind in TESTS},
+    **dict.fromkeys((("test", "partition"), ("test", "user"), ("test", "join")), NUMBERS),
 }
 LINE = told_by("line")
 

@@ -195,14 +195,18 @@ def page(matrix, title):
     parts = [f'<!DOCTYPE html>\n<html lang="en"><meta charset="utf-8"><title>{escape(title)}</title><style>{style}{colours}</style>\n<h1>{escape(title)}</h1>\n']
     marks = "".join(f'<td class="{name}">{said}</td>' for name, said in legend_of(matrix).items())
     parts.append(f"<table><tr>{marks}</tr></table>\n" + (f"<p>{escape(matrix.note)}</p>\n" if matrix.note else ""))
-    for kind, objects in grouped(matrix):
-        heads = "".join(f"<th>{escape(name_of_process(subject))}</th>" for subject in matrix.subjects)
-        parts.append(f"<h2>{escape(KINDS[kind])}</h2>\n<table><thead><tr><th></th>{heads}</tr></thead><tbody>\n")
-        for thing in objects:
-            cells = "".join(html_cell(subject, thing, matrix.letters[subject, thing]) for subject in matrix.subjects)
-            parts.append(f"<tr><th>{escape(thing)}</th>{cells}</tr>\n")
-        parts.append("</tbody></table>\n")
+    parts += [html_table(matrix, kind, objects) for kind, objects in grouped(matrix)]
     return "".join([*parts, "</html>\n"])
+
+
+def html_table(matrix, kind, objects, heading="h2"):
+    """The objects of a kind, below what their letters mean."""
+    heads = "".join(f"<th>{escape(name_of_process(subject))}</th>" for subject in matrix.subjects)
+    rows = []
+    for thing in objects:
+        cells = "".join(html_cell(subject, thing, matrix.letters[subject, thing]) for subject in matrix.subjects)
+        rows.append(f"<tr><th>{escape(thing)}</th>{cells}</tr>\n")
+    return f"<{heading}>{escape(KINDS[kind])}</{heading}>\n<table><thead><tr><th></th>{heads}</tr></thead><tbody>\n{''.join(rows)}</tbody></table>\n"
 
 
 def html_cell(subject, thing, cell):
