@@ -1,7 +1,7 @@
 """Compares the tables of "Where to add" in docs/ARCHITECTURE.md with the sources. See checks/adding.sh.
 
-A file is found to have a row by the names in it: variants of `Call` or `Command`; and of modules a variant of `Module` that isn't among
-WITH_MATTERS_OF_THEIR_OWN, three of any, or three in lower case, as texts, label texts and fields have them. Of the tables of calls, modules and words each
+A file is found to have a row by the names in it: variants of `Call` or `Command`, or that of the matrix of `Telling`; and of modules a variant of `Module` that isn't among
+WITH_MATTERS_OF_THEIR_OWN, three of any, or three in lower case, as texts, label texts and fields have them. Of the tables of calls, modules, words and tellings each
 file that is left out is told: one that is found by no such name has to stand in BY_READING, which the tables are held to as well.
 
 It doesn't find a new file with a row that goes by one or two modules alone, by an `other`, by a number, or by a part of a name. The tables of settings
@@ -178,9 +178,15 @@ def modules(found):
 
 def words(found):
     names = variants("mf_top/src/command.rt", "Command")
-    pattern = rf"\b(?:Command::|command\.|Telling::|telling\.)({'|'.join(names)})\b"
+    pattern = rf"\b(?:Command::|command\.)({'|'.join(names)})\b"
     is_about = lambda it: re.search(rf"(?i){'|'.join(names)}", it.code)
     return Table("A word of the program").faults(found, lambda it: it.names(pattern), is_about)
+
+
+def tellings(found):
+    """Of `matrix`, which has nothing that a telling hasn't; what `Sources` and `Chains` have alone is named in clauses too."""
+    is_row = lambda it: bool(it.names(r"\b(?:Telling::|telling\.)Matrix\b"))
+    return Table("A telling").faults(found, is_row, is_row)
 
 
 def unlabelled(names, facts):
@@ -192,6 +198,6 @@ if __name__ == "__main__":
     all_sources = sources()
     (of_calls, calls_told), (of_modules, modules_told) = calls(all_sources), modules(all_sources)
     of_settings = [fault for title in ("A setting of a policy", "A tunable") for fault in not_there(title, all_sources)]
-    all_faults = [*of_modules, *of_calls, *words(all_sources), *of_settings]
+    all_faults = [*of_modules, *of_calls, *words(all_sources), *tellings(all_sources), *of_settings]
     print("\n".join([*all_faults, calls_told, modules_told, f"where to add: {len(all_faults)} faults"]))
     sys.exit(1 if all_faults else 0)

@@ -51,6 +51,7 @@ SYNTAX = {
     "mf_flow SourcesText": "the sources as a text",
     "mf_matrix MatrixText": "the matrix as a text",
     "mf_chains ChainsText": "chains as a text",
+    "mf_why ReasonText": "the words of reasons",
     "mf_load Summary": "the summary of a load as a text",
     "mf_hist": "histories as texts",
     "mf_verdict Header": "the header of what is checked",

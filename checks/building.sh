@@ -176,7 +176,6 @@ make_copy 'exit 1' "cp '$PWD/crates/macsim/out/macsim' \"\$1\""
 cp -r examples "$copy"
 check 'tools/orders' works_unproved tools/orders --count 3 examples/10-two-tasks.macsim
 check 'tools/expect' works_unproved tools/expect examples/39-rules-first.macsim
-check 'tools/which-rule' works_unproved tools/which-rule examples/38-twelve-rules.macsim
 check 'tools/without' works_unproved tools/without mac_bsdextended examples/53-what-the-rules-withhold.macsim
 check 'tools/check-run' works_unproved tools/check-run "$script" "${script%.macsim}.out"
 cp -r .ci "$copy"

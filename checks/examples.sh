@@ -1,8 +1,9 @@
 #!/bin/sh
 # Runs each script of examples/, and compares what is printed with the .out file beside it; a picture of its sources with the .dot file, where
-# there is one; what `matrix` and `chains` write behind that with the .matrix and the .chains file, where there are such; and the replies with the
-# comments `#=` in it, by tools/expect. Each script has an .out file or such comments. A script with steps is run by them, and its text is always the
-# same. Without them the text of a script in which several tasks call depends on their order: it is run several times, and of each run is compared what
+# there is one; what `matrix` and `chains` write behind that with the .matrix and the .chains file, and what `why all` does with the .why file, where there are
+# such, and `why` with that file without its lines `let`; and the replies with the
+# comments `#=` in it, by tools/expect. Each script has an .out file or such comments. A script with steps is run by them, by the word `step`, and its text
+# is always the same. Without them the text of a script in which several tasks call depends on their order: it is run several times, and of each run is compared what
 # holds in every order. Then examples/README.md lists all of them, in their order, and no other. A line for each failure, then a count.
 cd "$(dirname "$0")/.." || exit 1
 ./macsim --proved run </dev/null >/dev/null || exit 1
@@ -40,6 +41,11 @@ has_steps() {
     grep -q '^[[:blank:]]*steps[[:blank:]]*$' "$1"
 }
 
+# The word that brings the calls of the script into their order.
+order_of() {
+    if has_steps "$1"; then echo step; else echo run; fi
+}
+
 # How many tasks of the script have calls.
 callers() {
     awk '
@@ -55,9 +61,7 @@ is_settled() {
 }
 
 is_as_expected() {
-    word=run
-    ! has_steps "$1" || word=step
-    ./macsim --proved "$word" <"$1" >"$printed" || return 1
+    ./macsim --proved "$(order_of "$1")" <"$1" >"$printed" || return 1
     if is_settled "$1"; then
         cmp -s "$printed" "${1%.macsim}.out"
     else
@@ -70,19 +74,29 @@ is_drawn() {
     [ ! -e "${1%.macsim}.dot" ] || awk -f examples/sources.awk "$printed" | cmp -s - "${1%.macsim}.dot"
 }
 
-# Whether each of two words writes behind the text of the .out file what is in the file with its name, where there is one.
+# Whether each of two words more writes behind the text of the .out file what is in the file with its name, where there is one.
 goes_on() {
     for word in matrix chains; do
         further=${1%.macsim}.$word
         [ ! -e "$further" ] || cat "${1%.macsim}.out" "$further" >"$told"
-        [ ! -e "$further" ] || ./macsim --proved "$word" <"$1" | cmp -s - "$told" || return 1
+        [ ! -e "$further" ] || ./macsim --proved "$(order_of "$1")" "$word" <"$1" | cmp -s - "$told" || return 1
     done
+}
+
+# Whether `why` and `why all` write behind the text of the .out file what is in the .why file, where there is one.
+tells_why() {
+    told_why=${1%.macsim}.why
+    [ -e "$told_why" ] || return 0
+    cat "${1%.macsim}.out" "$told_why" >"$told"
+    ./macsim --proved "$(order_of "$1")" why all <"$1" | cmp -s - "$told" || return 1
+    grep -v '^let ' "$told_why" | cat "${1%.macsim}.out" - >"$told"
+    ./macsim --proved "$(order_of "$1")" why <"$1" | cmp -s - "$told"
 }
 
 # Whether a script with an .out file prints what is there, in each of several runs where they may differ.
 is_as_printed() {
     for run in 1 2 3 4 5; do
-        is_as_expected "$1" && is_drawn "$1" && goes_on "$1" || return 1
+        is_as_expected "$1" && is_drawn "$1" && goes_on "$1" && tells_why "$1" || return 1
         ! is_settled "$1" || return 0
     done
 }

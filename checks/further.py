@@ -1,6 +1,6 @@
-"""The lines that `matrix` and `chains` write behind the text of a run, over the examples, worked scripts and
-scripts of random calls: they are those that matrix_rules.py and chain_rules.py come to from the text of
-the run alone. Each chain that is printed is one, and each element of each line of sources has its chain,
+"""The lines that `matrix`, `chains` and `why` write behind the text of a run, over the examples, worked scripts and
+scripts of random calls: they are those that matrix_rules.py, chain_rules.py and why_rules.py come to from the text of
+the run alone, and behind the text of the steps that make its history again they are the same. Each chain that is printed is one, and each element of each line of sources has its chain,
 in their order. Then the rows of the documents, the greatest matrix, and scripts at the limits of chains
 and one past each. A line for each failure, and then what was compared.
 
@@ -13,8 +13,8 @@ from collections import Counter
 import limit_scripts
 import scripts
 from chain_rules import CHAIN_LIMIT, Chains, Followed
-from further_lines import FURTHER, difference, fault_of_lines, parted
-from judging import ROOT, Work, verdict_on
+from further_lines import FURTHER, difference, parted
+from judging import ROOT, Work, fault_of
 from random_scripts import random_scripts
 from running import Program
 
@@ -36,7 +36,7 @@ class Judged:
 
     def fault_of(self, name, text, word):
         """What is wrong with what a word prints of a script, or None."""
-        work = Work(name, self.program, text.encode("latin-1"), words=[word])
+        work = Work(name, self.program, text.encode("latin-1"), words=["run", word])
         ended = work.usual
         if ended.status != 0 or ended.told:
             return f"status {ended.status}: {(ended.printed + ended.told)[-200:]!r}"
@@ -44,12 +44,9 @@ class Judged:
         run = self.program.run(["run"], work.given).printed.decode("latin-1")
         if work.is_settled and printed != run:
             return "the text before these lines isn't that of a run"
-        verdict = verdict_on(self.program, text, printed)
-        if verdict != "yes":
-            return f"the auditor says {verdict} of the text before these lines"
         self.told[f"lines of {word}"] += len(lines)
         self.told["steps"] += sum(len(line.split()) - 5 for line in lines if word == "chains")
-        return fault_of_lines(word, text, printed, lines, name)
+        return fault_of(work, ended.printed.decode("latin-1"))
 
     def judge(self, name, text):
         self.told["scripts"] += 1

@@ -1,14 +1,15 @@
-"""The lines that `matrix` and `chains` write behind the text of a run, and what is wrong with them by
-matrix_rules.py and chain_rules.py."""
+"""The lines that `matrix`, `chains` and `why` write behind the text of a run, and what is wrong with them by
+matrix_rules.py, chain_rules.py and why_rules.py."""
 from chain_rules import Chain, Chains, Followed, Judge
 from macsim_labels import element_of
 from matrix_rules import Matrix
+from why_rules import Fault, Why
 
 
 def parted(printed, word):
     """The text of a run, and the further lines of a word of the program."""
     lines = printed.splitlines(keepends=True)
-    first = next((place for place, line in enumerate(lines) if line.startswith(f"{FURTHER[word][0]} ")), len(lines))
+    first = next((place for place, line in enumerate(lines) if line.split(" ")[0] in FURTHER[word][0]), len(lines))
     return "".join(lines[:first]), [line.removesuffix("\n") for line in lines[first:]]
 
 
@@ -33,8 +34,9 @@ def wants_chains(printed):
     return [(policy, title, element) for _, policy, title, elements in sources if elements != "-" for element in elements.split(",")]
 
 
-def fault_of_chains(followed, printed, lines):
-    """What is wrong with the lines of chains behind the text of a run, or None."""
+def fault_of_chains(given, printed, lines, name):
+    """What is wrong with the lines of chains behind the text of a run of a script, or None."""
+    followed = Followed(given, printed, name)
     rows = [line.split(" ", 4) for line in lines]
     if [tuple(row[1:4]) for row in rows] != wants_chains(printed):
         return "the chains aren't those of the lines of sources, in their order"
@@ -46,14 +48,25 @@ def fault_of_chains(followed, printed, lines):
     return difference(lines, list(Chains(followed).lines()))
 
 
-def fault_of_matrix(followed, _, lines):
-    return difference(lines, list(Matrix(followed).lines()))
+def fault_of_matrix(given, printed, lines, name):
+    return difference(lines, list(Matrix(Followed(given, printed, name)).lines()))
 
 
-# For each word of the program the first word of its further lines, and what is wrong with them.
-FURTHER = {"chains": ("chain", fault_of_chains), "matrix": ("matrix", fault_of_matrix)}
+def fault_of_why(given, printed, lines, name):
+    try:
+        return difference(lines, Why(given, printed, name).lines)
+    except Fault as fault:
+        return str(fault)
+
+
+# For each word of the program the first words of its further lines, and what is wrong with them.
+FURTHER = {
+    "chains": (("chain",), fault_of_chains),
+    "matrix": (("matrix",), fault_of_matrix),
+    "why": (("lowered", "let", "denied", "why", "also"), fault_of_why),
+}
 
 
 def fault_of_lines(word, given, printed, lines, name):
     """What is wrong with the further lines of a word behind the text of a run of a script, or None."""
-    return FURTHER[word][1](Followed(given, printed, name), printed, lines)
+    return FURTHER[word][1](given, printed, lines, name)

@@ -8,7 +8,7 @@ ROOT = Path(__file__).resolve().parent.parent
 sys.path.insert(0, str(ROOT / "tools"))
 
 from further_lines import FURTHER, fault_of_lines, parted
-from macsim_command import with_steps, word_for
+from macsim_command import lines_before_steps, with_steps, word_for
 from macsim_replay import Replay
 from macsim_text import BadInput, events_of, script_of
 
@@ -23,11 +23,11 @@ class Work:
 
     def __init__(self, name, program, given, words=None):
         self.name, self.program, self.given = name, program, given
-        is_script = words is None or words[0] in FURTHER
+        is_script = words is None or words[0] not in ("check", "gen")
         self.script = script_of(given.decode("latin-1"), name) if is_script else None
         self.words = words or [word_for(self.script)]
         # Whether the same is printed each time.
-        self.is_settled = self.script is None or self.words == ["step"] or self.has_one_caller()
+        self.is_settled = self.script is None or self.words[0] == "step" or self.has_one_caller()
         self.usual = program.run(self.words, given)
 
     def has_one_caller(self):
@@ -62,23 +62,24 @@ def steps_of(event):
 
 def fault_of(work, printed):
     """What is wrong with the history of a run, or with what stands behind it, or None."""
-    word = work.words[0]
-    if word in FURTHER:
-        printed, lines = parted(printed, word)
-        fault = fault_of_lines(word, work.given.decode("latin-1"), printed, lines, work.name)
+    text, further = printed, [word for word in work.words if word in FURTHER]
+    for word in further:
+        text, lines = parted(printed, word)
+        fault = fault_of_lines(word, work.given.decode("latin-1"), text, lines, work.name)
         if fault is not None:
             return fault
     try:
-        events = events_of(printed, work.name)
+        events = events_of(text, work.name)
         for _ in Replay(work.script).follow(events, work.name):
             pass
     except BadInput as fault:
         return str(fault)
-    verdict = verdict_on(work.program, work.given.decode("latin-1"), printed)
+    verdict = verdict_on(work.program, work.given.decode("latin-1"), text)
     if verdict != "yes":
         return f"the auditor says {verdict}"
     steps = [step for event in events for step in steps_of(event)]
-    again = work.program.run(["step"], with_steps(work.script.lines, steps).encode("latin-1"))
+    stepped = with_steps(lines_before_steps(work.script), steps)
+    again = work.program.run(["step", *further], stepped.encode("latin-1"))
     is_same = again.status == 0 and again.printed.decode("latin-1") == printed
     return None if is_same else "its steps make another history"
 

@@ -1,5 +1,5 @@
 """Refuses the program one allocation after another, in a run of its own each: over five worked
-scripts, also with `matrix` and `chains`, their texts, which it checks, a load and the examples. A run that is refused an allocation
+scripts, also with `matrix`, `chains` and `why`, their texts, which it checks, a load and the examples. A run that is refused an allocation
 ends with 0 and what is right for its script, or with 9 and no part of a history; the first fifteen,
 in which `main` makes the words and the modules, end with 9. The tests of refused growths are run so
 too, with each refused: they hold, or say that memory ran out. A line for each script, with how many
@@ -39,7 +39,7 @@ def works(program):
     for name, text in WORKED.items():
         yield Work(name, program, text.encode())
         for word in FURTHER:
-            yield Work(f"{word} of {name}", program, text.encode(), words=[word])
+            yield Work(f"{word} of {name}", program, text.encode(), words=["run", word])
     yield Work("gen 64 4", program, b"", words=["gen", "64", "4"])
     for name, text in WORKED.items():
         printed = program.run(["run"], text.encode()).printed
@@ -47,6 +47,9 @@ def works(program):
         yield Work(f"check of {name}", program, given, words=["check"])
     for path in sorted(ROOT.glob("examples/*.macsim")):
         yield Work(path.stem, program, path.read_bytes())
+    stepped = ROOT / "examples/60-where-the-steps-end.macsim"
+    for word in FURTHER:
+        yield Work(f"step {word} of {stepped.stem}", program, stepped.read_bytes(), words=["step", word])
 
 
 def is_as_wanted(work, number, ended):

@@ -37,9 +37,9 @@ reads_nothing() {
     cmp -s "$folder/left" "$script"
 }
 
-# Whether the script with a word, where the device takes nothing, tells so by its status.
+# Whether the script with these words, where the device takes nothing, tells so by its status.
 fails_to_write() {
-    "$program" "$1" <"$script" >/dev/full 2>"$folder/told"
+    "$program" "$@" <"$script" >/dev/full 2>"$folder/told"
     [ "$?" -eq 5 ] && [ ! -s "$folder/told" ]
 }
 
@@ -97,6 +97,7 @@ text no_8 'no 8'
 } >"$folder/chains"
 PYTHONPATH=checks python3 -B -c 'import limit_scripts; print(limit_scripts.steps(True), end="")' >"$folder/many"
 { "$program" run <"$folder/many"; echo 'macsim: too many chains'; } >"$folder/too_many_chains"
+awk -f examples/in-order.awk "$folder/many" >"$folder/many_stepped"
 script_of "$most" "$folder/longest"
 script_of "$((most + 1))" "$folder/longer"
 
@@ -111,6 +112,14 @@ check_usage check "$script"
 check_usage matrix "$script"
 check_usage chains "$script"
 check_usage chain
+check_usage run matrix "$script"
+check_usage step chains "$script"
+check_usage run run
+check_usage run check
+check_usage run matrix chains
+check_usage matrix chains
+check_usage check matrix
+check_usage gen matrix
 check_usage gen 2
 check_usage gen 2 2 2
 check_usage gen 0 2
@@ -147,6 +156,14 @@ check 'check: one byte more' ends 6 "$folder/longer_checked" "$folder/too_long" 
 check 'check: an input that cannot be read' ends 4 . "$folder/read_fault" check
 
 for word in matrix chains; do
+    check "run $word: a script" ends 0 "$script" "$folder/$word" run "$word"
+    check "run $word: a word that is none" ends 3 "$folder/bad" "$folder/unknown_word" run "$word"
+    check "step $word: each step is taken" ends 0 "$folder/all_stepped" "$folder/$word" step "$word"
+    check "step $word: a step that is out of turn" ends 7 "$folder/twice" "$folder/refused" step "$word"
+    check "step $word: a word that is none" ends 3 "$folder/bad" "$folder/unknown_word" step "$word"
+    check "step $word: one byte more" ends 6 "$folder/longer" "$folder/too_long" step "$word"
+    check "step $word: an input that cannot be read" ends 4 . "$folder/read_fault" step "$word"
+    check "step $word: an output that cannot be written" fails_to_write step "$word"
     check "$word: a script" ends 0 "$script" "$folder/$word" "$word"
     check "$word: steps are left aside" ends 0 "$folder/stepped" "$folder/$word" "$word"
     check "$word: no module, no file and no task" ends 0 /dev/null /dev/null "$word"
@@ -157,6 +174,32 @@ for word in matrix chains; do
     check "$word: an output that cannot be written" fails_to_write "$word"
 done
 check 'chains: too many' ends 11 "$folder/many" "$folder/too_many_chains" chains
+check 'run chains: too many' ends 11 "$folder/many" "$folder/too_many_chains" run chains
+check 'step chains: too many' ends 11 "$folder/many_stepped" "$folder/too_many_chains" step chains
+
+{
+    cat "$history"
+    printf 'denied t 1 2 vnode_open_read proc:t vnode:/a\nwhy t 1 mac_biba decides EACCES observe subject high object low\n'
+} >"$folder/why"
+for words in why 'why all'; do
+    check "run $words: a script" ends 0 "$script" "$folder/why" run $words
+    check "run $words: steps are left aside" ends 0 "$folder/stepped" "$folder/why" run $words
+    check "run $words: no module, no file and no task" ends 0 /dev/null /dev/null run $words
+    check "run $words: a word that is none" ends 3 "$folder/bad" "$folder/unknown_word" run $words
+    check "run $words: one byte more" ends 6 "$folder/longer" "$folder/too_long" run $words
+    check "run $words: an input that cannot be read" ends 4 . "$folder/read_fault" run $words
+    check "run $words: an output that cannot be written" fails_to_write run $words
+    check "step $words: each step is taken" ends 0 "$folder/all_stepped" "$folder/why" step $words
+    check "step $words: a step that is out of turn" ends 7 "$folder/twice" "$folder/refused" step $words
+    check "step $words: an output that cannot be written" fails_to_write step $words
+done
+check_usage why "$script"
+check_usage why all "$script"
+check_usage run why why
+check_usage run why all all
+check_usage run all
+check_usage step why matrix
+check_usage check why
 
 check 'run: a closed standard input' over 4 closed_input
 check 'run: an input that is open for writing' over 4 input_for_writing

@@ -3,7 +3,7 @@
 set -u
 cd "$(dirname "$0")/.." || exit 1
 
-sources="crates/mf_top/src/top.rt crates/mf_top/specs/Answers.antt crates/mf_top/specs/Runs.antt crates/mf_top/specs/Reading.antt crates/mf_top/specs/Slots.antt
+sources="crates/mf_top/src/top.rt crates/mf_top/specs/Answers.antt crates/mf_top/specs/Runs.antt crates/mf_top/specs/Reading.antt crates/mf_top/specs/Slots.antt crates/mf_top/specs/Tellings.antt
   crates/mf_core/specs/LegalHistory.antt crates/mf_spelling/specs/Spelling.antt"
 
 quoted=0

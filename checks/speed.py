@@ -1,5 +1,6 @@
-"""Prints how many instructions and how much time the program takes beside a plain one, and how its
-instructions grow with calls, files, rules, elements and tasks. speed.sh says how it is started."""
+"""Prints how many instructions and how much time the program takes beside a plain one, how its
+instructions grow with calls, files, rules, elements and tasks, and what `chains` and `why` take
+beyond a run in which nothing is denied. speed.sh says how it is started."""
 import math
 import os
 import re
@@ -131,11 +132,37 @@ def grow(program, printer):
         print(f"{name:24}" + "; ".join(" ".join(map(str, column)) for column in columns))
 
 
+LATTICES = ["boot mac_biba", "boot mac_mls", "boot mac_lomac"]
+
+
+def by_eight(front, calls):
+    """Eight tasks without a label that make these calls, again and again, 800 each."""
+    return script(front, [("-", (calls * 800)[:800]) for _ in range(8)])
+
+
+def beyond(program):
+    """Prints what `run chains` and `run why` take beyond `run`, in millions, where nothing is denied."""
+    works = [
+        ("reads and writes, mac_biba", over_files(4000, 256)),
+        ("reads, three policies", by_eight([*LATTICES, *files(16, "-")], [f"read /f{it}" for it in range(16)])),
+        ("appends, three policies", by_eight([*LATTICES, *files(1, "-")], ["write /f0 x", "chmod /f0 600"])),
+        ("privileges, three policies", by_eight(LATTICES, ["priv SCHED_RTPRIO"])),
+        ("processes seen, three policies", by_eight(LATTICES, ["see t0"])),
+        ("modules listed, three policies", by_eight(LATTICES, ["kldstat"])),
+    ]
+    print(f"\n{'beyond a run':36}" + "".join(f"{head:>9}" for head in ["chains", "why", "ratio"]))
+    for name, text in works:
+        run, chains, why = (instructions([program, "run", *words], text) for words in ([], ["chains"], ["why"]))
+        row = [(chains - run) / 1e6, (why - run) / 1e6, (why - run) / (chains - run)]
+        print(f"{name:36}" + "".join(f"{it:9.2f}" for it in row))
+
+
 def main():
     program, plain, *more = sys.argv[1:]
     printer = "crates/macsim_load/out/macsim_load"
     compare(program, plain, printer, int(more[0]) if more else 10)
     grow(program, printer)
+    beyond(program)
 
 
 main()

@@ -1,7 +1,7 @@
 """Runs scripts of sixteen tasks that load, unload and change, that mac_lomac lowers, or that have
 files open, on one, two and four processors, where some or all threads can't be made, and where
 memory is refused. Each history is judged by the auditor, followed by the tools and made again by its steps, and no
-label slot is given twice; what `matrix` and `chains` write behind one is judged by rules of its own. A line for each kind of run, then a count.
+label slot is given twice; what `matrix`, `chains` and `why` write behind one is judged by rules of its own. A line for each kind of run, then a count.
 
     checks/threads.sh [--every N] [--from K] [--all]
 """
@@ -49,7 +49,7 @@ class Runs:
             Work("waiting", program, scripts.mixed(MIXED_LINES).encode()),
             Work("sinking", program, sinking),
             Work("opening", program, scripts.openers(OPENING_LINES).encode()),
-            *(Work(f"{word} of sinking", program, sinking, words=[word]) for word in FURTHER),
+            *(Work(f"{word} of sinking", program, sinking, words=["run", word]) for word in FURTHER),
         ]
         self.passed = self.failed = 0
 
