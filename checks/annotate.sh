@@ -165,7 +165,7 @@ done guest 2 no EACCES vnode_open_write mac_bsdextended 3    # line 40: write /w
     mac_bsdextended decides, EACCES: rule 8 wants w gives rsx
     rule 8: line 18: ugidfw add subject object suid mode rsx
     has to hold: the rule that decides gives every letter that is wanted
-    helps: give rule 8 the letters w, by ugidfw set 8; or set a rule that gives them under a lesser number. With first match off each rule that is told has to give them. Where rule 8 was meant for files and matches a directory on the way: type r in it
+    helps: give rule 8 the letters w, by ugidfw set 8; or, with first match on, set a rule that gives them under a lesser number, where there is one. With first match off each rule that is told has to give them. Where rule 8 was meant for files and matches a directory on the way: type r in it
 END
 count $? "$script: another text of a rule that decides"
 explains 'done httpd 6 ' "$script" <<'END'
@@ -178,7 +178,7 @@ done httpd 6 no EACCES vnode_open_read mac_bsdextended 3    # line 30: read /www
     and rule 11 wants r gives n
     rule 11: line 21: ugidfw add subject object type r mode n
     has to hold: the rule that decides gives every letter that is wanted
-    helps: give rule 3 the letters r, by ugidfw set 3; or set a rule that gives them under a lesser number. With first match off each rule that is told has to give them. Where rule 3 was meant for files and matches a directory on the way: type r in it
+    helps: give rule 3 the letters r, by ugidfw set 3; or, with first match on, set a rule that gives them under a lesser number, where there is one. With first match off each rule that is told has to give them. Where rule 3 was meant for files and matches a directory on the way: type r in it
 END
 count $? "$script: another text of rules that deny by themselves"
 awk '
